@@ -1,0 +1,6 @@
+//! The type rules, and what they tell of a program that keeps them.
+#![tactic(auto)]
+
+mod checked;
+
+pub use checked::{Checked, Entry, Fact, Named};
