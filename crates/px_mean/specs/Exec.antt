@@ -1,5 +1,5 @@
 -- The meaning of the source tree, by structure (JLS 8.4, 14, 15).
-use Rattle.std.specs.Prelude.{ℕ, zero, suc, ◌+◌, ◌-◌, ◌*◌, length, take, ◌++◌, Bool, true, false, List, [], ◌∷◌, map, Option, Some, None, unwrap_or, slice_get, slice_set, pos}
+use Rattle.std.specs.Prelude.{ℕ, zero, suc, ◌+◌, ◌-◌, ◌*◌, length, take, ◌++◌, Bool, true, false, List, [], ◌∷◌, map, Option, Some, None, unwrap_or, slice_get, slice_set, pos, Ok, Err}
 use Rattle.std.specs.Int.{int_wrap, w32, w64}
 use Rattle.px_value.specs.declared.value.Value.{Value}
 use Rattle.px_value.specs.declared.value.Value.TheVariants.{Int, Long, Null, Ref}
@@ -8,7 +8,6 @@ use Rattle.px_value.specs.declared.ty.Ty.TheVariants as ty
 use Rattle.px_value.specs.declared.op.Op.{Op}
 use Rattle.px_value.specs.declared.op.Op.TheVariants as op
 use Rattle.px_value.specs.declared.object.Object.{Object}
-use Rattle.px_value.specs.declared.thrown.Thrown.TheVariants.{StackOverflowError}
 use Rattle.px_lex.specs.declared.tree.Sign.{Sign}
 use Rattle.px_lex.specs.declared.tree.Expr.{Expr, Expr-F, fold-Expr}
 use Rattle.px_lex.specs.declared.tree.ExprForm.{ExprForm-F}
@@ -19,7 +18,7 @@ use Rattle.px_lex.specs.declared.tree.StmtForm.TheOpen.{StmtForm-F as st}
 use Rattle.px_types.specs.declared.checked.Named.{Named}
 use Rattle.px_types.specs.declared.checked.Named.TheVariants as named
 use Rattle.px_mean.specs.Outcome.{Outcome, Gives, Throws, Asks, Run, ◌>>=◌, pure, throw, State, Shared, on_shared, Flow, Goes, Returns, in_order}
-use Rattle.px_mean.specs.Operators.{apply}
+use Rattle.px_mean.specs.Operators.{Applied, apply}
 use Rattle.px_mean.specs.Effects.{get_field, put_field}
 use Rattle.px_mean.specs.Facts.{Facts, named_ty, op_of, prefix_of}
 
@@ -37,24 +36,19 @@ with_slots s slots = record s { locals = record { this = s.locals.this; slots = 
 abbrev pub Here : Type 0 → Type 0 → Type 0 → Type 0
 Here Q W A = Run Q (Frame W) A
 
--- what a call of a method does, by its number, of `this` and the arguments
-abbrev pub Calls : Type 0 → Type 0 → Type 0
-Calls Q W = ℕ → List Value → Run Q (Shared W) (Option Value)
-
--- what the meaning of a method's body is given
-pub record Given (Q W : Type 0) : Type 0 where
-  pub facts : Facts
-  pub calls : Calls Q W
-
 -- ---- values
 
+abbrev pub came_to : {Q S : Type 0} → Applied → Run Q S Value
+came_to (Ok v) = pure v
+came_to (Err t) = throw t
+
 -- an int where a long is wanted is widened (JLS 5.1.2, 5.2)
-abbrev pub widened : Ty → Ty → Value → Value
+abbrev pub widened : Ty → Ty → Value → Applied
 widened ty.Int ty.Long v = apply op.Widen v v
-widened from to v = v
+widened from to v = Ok v
 
 abbrev pub fit : {Q S : Type 0} → Ty → Ty → Value → Run Q S Value
-fit from to v = pure (widened from to v)
+fit from to v = came_to (widened from to v)
 
 -- the value of a list of decimal digits (JLS 3.10.1)
 abbrev pub decimal_value : List ℕ → ℕ → ℕ
@@ -107,37 +101,37 @@ abbrev pub put_member : {Q W : Type 0} → Named → Value → Value → Here Q 
 put_member (named.Field class place) o v = on_shared (put_field o place v)
 put_member _ o v = pure tt
 
-abbrev pub by_op : {Q S : Type 0} → Option Op → Value → Run Q S Value
-by_op None v = pure v
-by_op (Some o) v = pure (apply o v v)
+abbrev pub prefixed : Option Op → Value → Applied
+prefixed None v = Ok v
+prefixed (Some o) v = apply o v v
 
 -- the left operand first (JLS 15.7.1)
 abbrev pub binary : {Q S : Type 0} → Sign → Run Q S Value → Run Q S Value → Run Q S Value
-binary s l r = l >>= (λ a. r >>= (λ b. pure (apply (op_of s) a b)))
+binary s l r = l >>= (λ a. r >>= (λ b. came_to (apply (op_of s) a b)))
 
 -- one level of an expression, of what its parts mean, by its number
-abbrev pub expr_step : {Q W : Type 0} → Given Q W → ExprForm-F (ℕ → Meant Q W) (Meant Q W) → ℕ → Meant Q W
-expr_step G (e.Number digits long) id = no_place (G.facts.type_of id) (pure (literal digits long))
-expr_step G e.This id = no_place (G.facts.type_of id) this_value
-expr_step G (e.Name n) id = record {
-  ty = G.facts.type_of id;
-  run = name_value (G.facts.named id);
-  put = put_name (G.facts.named id) (G.facts.type_of id);
+abbrev pub expr_step : {Q W : Type 0} → Facts → ExprForm-F (ℕ → Meant Q W) (Meant Q W) → ℕ → Meant Q W
+expr_step F (e.Number digits long) id = no_place (F.type_of id) (pure (literal digits long))
+expr_step F e.This id = no_place (F.type_of id) this_value
+expr_step F (e.Name n) id = record {
+  ty = F.type_of id;
+  run = name_value (F.named id);
+  put = put_name (F.named id) (F.type_of id);
 }
-expr_step G (e.Group inner) id = inner
-expr_step G (e.Field of n) id = record {
-  ty = G.facts.type_of id;
-  run = of.run >>= member_value (G.facts.named id);
-  put = λ from r. of.run >>= (λ o. r >>= fit from (G.facts.type_of id) >>= put_member (G.facts.named id) o);
+expr_step F (e.Group inner) id = no_place (F.type_of id) inner.run
+expr_step F (e.Field of n) id = record {
+  ty = F.type_of id;
+  run = of.run >>= member_value (F.named id);
+  put = λ from r. of.run >>= (λ o. r >>= fit from (F.type_of id) >>= put_member (F.named id) o);
 }
-expr_step G (e.Prefix s x) id = no_place (G.facts.type_of id) (x.run >>= by_op (prefix_of s))
-expr_step G (e.Binary s at l r) id = no_place (G.facts.type_of id) (binary s l.run r.run)
+expr_step F (e.Prefix s x) id = no_place (F.type_of id) (x.run >>= (λ v. came_to (prefixed (prefix_of s) v)))
+expr_step F (e.Binary s at l r) id = no_place (F.type_of id) (binary s l.run r.run)
 
 abbrev pub numbered : {A : Type 0} → Expr-F (ℕ → A) A → A
 numbered x = x.form x.id
 
-unfoldable pub meant : {Q W : Type 0} → Given Q W → Expr → Meant Q W
-meant {Q} {W} G = fold-Expr (ℕ → Meant Q W) (Meant Q W) (expr_step G) numbered
+unfoldable pub meant : {Q W : Type 0} → Facts → Expr → Meant Q W
+meant {Q} {W} F = fold-Expr (ℕ → Meant Q W) (Meant Q W) (expr_step F) numbered
 
 -- ---- statements
 
@@ -201,23 +195,15 @@ leaves_frame (Gives f s) = Gives (result_of f) s.shared
 leaves_frame (Throws t s) = Throws t s.shared
 leaves_frame (Asks q) = Asks q
 
-abbrev pub enters : {Q W : Type 0} → Given Q W → Option Body → List Value → Run Q (Shared W) (Option Value)
-enters G None args g = Gives None g
-enters G (Some b) args g = leaves_frame (done_by (meant G) b.gives b.code (record { locals = first_locals args; shared = g }))
+abbrev pub enters : {Q W : Type 0} → Facts → Option Body → List Value → Run Q (Shared W) (Option Value)
+enters F None args g = Gives None g
+enters F (Some b) args g = leaves_frame (done_by (meant F) b.gives b.code (record { locals = first_locals args; shared = g }))
 
 -- methods are numbered from 1
 abbrev pub body_at : List Body → ℕ → Option Body
 body_at bodies zero = None
 body_at bodies (suc m) = slice_get bodies m
 
--- calls with at most so many frames
-unfoldable pub calls_in : {Q W : Type 0} → Facts → List Body → ℕ → Calls Q W
-calls_in facts bodies zero m args = throw StackOverflowError
-calls_in facts bodies (suc n) m args = enters (record { facts = facts; calls = calls_in facts bodies n }) (body_at bodies m) args
-
-abbrev pub max_frames : ℕ
-max_frames = 200
-
--- the run of an entry: object 0 of the heap is `this`
+-- the run of a method as an entry: object 0 of the heap is `this`
 unfoldable pub exec : {Q W : Type 0} → Facts → List Body → List Object → W → ℕ → List Value → Outcome Q (Shared W) (Option Value)
-exec facts bodies heap world entry args = calls_in facts bodies max_frames entry (Ref 0 ∷ args) (record { heap = heap; world = world })
+exec F bodies heap world method args = enters F (body_at bodies method) (Ref 0 ∷ args) (record { heap = heap; world = world })

@@ -1,5 +1,5 @@
 //! A session's heap.
-ghost use Rattle.std.specs.Prelude.{◌≡◌, ◌≤◌, ◌<◌, ◌+◌, ◌↔◌, ◌++◌, [], ◌∷◌, length, take, slice_get, IfSome, IfNone, IfOk, OnOk, OnErr, IsErrOf, IsTrue};
+ghost use Rattle.std.specs.Prelude.{◌≡◌, ◌≤◌, ◌<◌, ◌+◌, ◌↔◌, ◌++◌, [], ◌∷◌, length, take, slice_get, IfNone, IfOk, OnOk, OnErr, IsErrOf, IsTrue};
 ghost use Rattle.std.specs.Option.{option_copied};
 ghost use Rattle.px_value.specs.Heap.{HasNoRoom, IsLongArray, cell_at, header_of, written};
 ghost use Rattle.px_value.specs.declared.heap.AddError.TheVariants.{NoMemory};
@@ -115,7 +115,7 @@ impl Heap {
     /// The value that stood in the cell.
     pub fn set(&mut self, object: u32, index: u32, value: Value) -> Option<Value>
         ensures old { result ≡ cell_at self.old object index }
-        ensures some { IfSome result (λ _. self.new ≡ written self.old object index value) }
+        ensures written { self.new ≡ written self.old object index value }
         ensures none { IfNone result (self.new ≡ self.old) }
     {
         let object = object as usize;

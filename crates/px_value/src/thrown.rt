@@ -4,5 +4,4 @@
 #[derive(Clone, Copy, Debug, PartialEq, Eq)]
 pub enum Thrown {
     NullPointerException,
-    StackOverflowError,
 }

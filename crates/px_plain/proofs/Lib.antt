@@ -1,0 +1,4 @@
+pub mod Digits
+pub mod Undoes
+pub mod Steps
+pub mod Runs
