@@ -2,5 +2,6 @@
 #![tactic(auto)]
 
 mod checked;
+mod names;
 
 pub use checked::{Checked, Entry, Fact, Named};
