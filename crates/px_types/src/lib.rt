@@ -2,6 +2,7 @@
 #![tactic(auto)]
 
 mod checked;
+mod literal;
 mod names;
 
 pub use checked::{Checked, Entry, Fact, Named};
