@@ -2,7 +2,9 @@
 #![tactic(auto)]
 
 mod checked;
+mod error;
 mod literal;
 mod names;
 
 pub use checked::{Checked, Entry, Fact, Named};
+pub use error::CheckError;

@@ -1,7 +1,8 @@
 //! Sets of names.
-ghost use Rattle.std.specs.Prelude.{◌≡◌, ◌<◌, [], ◌∷◌, ◌++◌, if◌then◌else◌, length, take, IfOk, IfSome};
-ghost use Rattle.px_types.specs.Names.{place_of, is_new};
+ghost use Rattle.std.specs.Prelude.{◌≡◌, ◌<◌, [], ◌∷◌, ◌++◌, true, false, if◌then◌else◌, length, take, IfOk, OnOk, IsErrOf, IfSome};
+ghost use Rattle.px_types.specs.Names.{place_of, has_name, is_new, is_free, reserved};
 
+use crate::error::CheckError;
 use indexmap::IndexSet;
 use std::alloc::{AllocError, Global};
 use std::marker::Model;
@@ -53,10 +54,28 @@ impl Names {
         Ok(added)
     }
 
+    /// Adds the name of a field, a parameter or a local.
+    pub fn declare(&mut self, alloc: Global, name: &[u8]) -> Result<(), CheckError>
+        ensures free { OnOk result (is_free name.now self.old ≡ true) }
+        ensures names { OnOk result (self.new ≡ self.old ++ name.now ∷ []) }
+        ensures faulty { IsErrOf result CheckError.Faulty → is_free name.now self.old ≡ false }
+    {
+        if is_reserved(name) || !self.add(alloc, name)? {
+            return Err(CheckError::Faulty);
+        }
+        Ok(())
+    }
+
     /// Keeps the oldest names.
     pub fn truncate(&mut self, count: usize)
         ensures { self.new ≡ take count self.old }
     {
         self.set.truncate(count);
     }
+}
+
+fn is_reserved(name: &[u8]) -> bool
+    ensures { result ≡ has_name name.now reserved }
+{
+    name == "Db".as_bytes() || name == "System".as_bytes() || name == "String".as_bytes() || name == "ResultSet".as_bytes()
 }
