@@ -5,20 +5,14 @@ use Rattle.px_value.specs.declared.ty.Ty.TheVariants.{Int, Long, Ref}
 use Rattle.px_lex.specs.declared.tree.Sign.{Sign}
 use Rattle.px_lex.specs.declared.tree.Sign.TheVariants.{Minus}
 use Rattle.px_lex.specs.declared.tree.Expr.{Expr, Expr-F, fold-Expr}
-use Rattle.px_lex.specs.declared.tree.ExprForm.{ExprForm-F}
+use Rattle.px_lex.specs.declared.tree.ExprForm.{ExprForm, ExprForm-F, fold-ExprForm}
 use Rattle.px_lex.specs.declared.tree.ExprForm.TheOpen.{ExprForm-F as e}
 use Rattle.px_types.specs.declared.checked.Fact.{Fact}
+use Rattle.px_types.specs.declared.scope.Scope.{Scope}
 use Rattle.px_types.specs.declared.checked.Named.{Named}
 use Rattle.px_types.specs.declared.checked.Named.TheVariants.{Nothing, Local, Field}
 use Rattle.px_types.specs.Names.{place_of}
 use Rattle.px_types.specs.Literals.{number_type}
-
--- The variables in scope at an expression (JLS 6.3): the fields of the class, and the parameters and locals, the oldest first.
--- Only the first `assigned` locals may be used: a local is in scope in its own initialiser, and isn't assigned there (JLS 16).
-pub record Scope : Type 0 where
-  pub fields : List (List ℕ)
-  pub locals : List (List ℕ)
-  pub assigned : ℕ
 
 -- What is known of an expression, and of those in it, in the order of their numbers. Where it breaks a rule it has no type.
 pub record Typed : Type 0 where
@@ -96,8 +90,11 @@ typed_step (e.Binary sign at l r) negated scope =
     let right = r false scope in
     record { fact = of_type (both_promoted left.fact.ty right.fact.ty); inner = all_facts left ++ all_facts right }
 
-abbrev pub typed_form : Expr-F Judges Judges → Judges
-typed_form x = x.form
+abbrev pub whole : Expr-F Judges Judges → Judges
+whole x = x.form
+
+unfoldable pub typed_form : ExprForm → Judges
+typed_form = fold-ExprForm Judges Judges typed_step whole
 
 unfoldable pub typed : Expr → Judges
-typed = fold-Expr Judges Judges typed_step typed_form
+typed = fold-Expr Judges Judges typed_step whole

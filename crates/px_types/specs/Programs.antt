@@ -13,6 +13,7 @@ use Rattle.px_lex.specs.declared.tree.Param.{Param}
 use Rattle.px_lex.specs.declared.tree.TypeName.{TypeName}
 use Rattle.px_types.specs.declared.checked.Fact.{Fact}
 use Rattle.px_types.specs.declared.checked.Entry.{Entry}
+use Rattle.px_types.specs.declared.scope.Scope.{Scope}
 use Rattle.px_types.specs.Names.{all_new, all_free}
 use Rattle.px_types.specs.Members.{fields_of, methods_of, method_name, params_of}
 use Rattle.px_types.specs.Statements.{Judged, judged_stmt}
@@ -35,9 +36,12 @@ is_void m = is_none m.gives
 abbrev pub token_count : Method → ℕ
 token_count m = m.to - m.from + 1
 
--- a method's body, with its parameters in scope (JLS 6.3, 8.4.1)
+-- the scope of a method's body (JLS 6.3, 8.4.1)
+abbrev pub body_scope : List (List ℕ) → Method → Scope
+body_scope fields m = record { fields = fields; locals = params_of m; assigned = length (params_of m) }
+
 abbrev pub judged_body : List (List ℕ) → Method → Judged
-judged_body fields m = judged_stmt fields (is_void m) m.body (params_of m)
+judged_body fields m = judged_stmt (is_void m) m.body (body_scope fields m)
 
 -- a method that isn't void can't complete normally (JLS 8.4.7)
 abbrev pub ends : Method → Judged → Bool

@@ -3,8 +3,10 @@
 
 mod checked;
 mod error;
+mod fields;
 mod literal;
 mod names;
+mod scope;
 
 pub use checked::{Checked, Entry, Fact, Named};
 pub use error::CheckError;

@@ -1,5 +1,5 @@
 //! Sets of names.
-ghost use Rattle.std.specs.Prelude.{◌≡◌, ◌<◌, [], ◌∷◌, ◌++◌, true, false, if◌then◌else◌, length, take, IfOk, OnOk, IsErrOf, IfSome};
+ghost use Rattle.std.specs.Prelude.{◌≡◌, ◌<◌, [], ◌∷◌, ◌++◌, true, false, if◌then◌else◌, length, take, IfOk, OnOk, OnErr, IsErrOf, IfSome};
 ghost use Rattle.px_types.specs.Names.{place_of, has_name, is_new, is_free, reserved};
 
 use crate::error::CheckError;
@@ -48,6 +48,7 @@ impl Names {
     pub fn add(&mut self, alloc: Global, name: &[u8]) -> Result<bool, AllocError>
         ensures added { IfOk result (λ added. added ≡ is_new name.now self.old) }
         ensures names { IfOk result (λ added. self.new ≡ (if added then self.old ++ name.now ∷ [] else self.old)) }
+        ensures err { OnErr result (self.new ≡ self.old) }
     {
         let name = Vec::from_slice(alloc, name)?;
         let (_, added) = self.set.insert_full(name)?;
@@ -59,6 +60,7 @@ impl Names {
         ensures free { OnOk result (is_free name.now self.old ≡ true) }
         ensures names { OnOk result (self.new ≡ self.old ++ name.now ∷ []) }
         ensures faulty { IsErrOf result CheckError.Faulty → is_free name.now self.old ≡ false }
+        ensures err { OnErr result (self.new ≡ self.old) }
     {
         if is_reserved(name) || !self.add(alloc, name)? {
             return Err(CheckError::Faulty);
