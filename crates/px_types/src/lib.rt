@@ -3,6 +3,7 @@
 
 mod checked;
 mod error;
+mod expression;
 mod fields;
 mod literal;
 mod names;
