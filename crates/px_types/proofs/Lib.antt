@@ -1,3 +1,4 @@
 pub mod Mapped
 pub mod Decimals
 pub mod Forms
+pub mod Steps
