@@ -4,7 +4,7 @@ use Rattle.px_lex.specs.declared.tree.Expr.{Expr}
 use Rattle.px_lex.specs.declared.tree.ExprForm.{ExprForm, ExprForm-F, out-ExprForm}
 use Rattle.px_lex.specs.declared.tree.ExprForm.TheOpen.{ExprForm-F as e}
 use Rattle.px_lex.specs.declared.tree.Stmt.{Stmt, Stmt-F, fold-Stmt}
-use Rattle.px_lex.specs.declared.tree.StmtForm.{StmtForm, StmtForm-F, fold-StmtForm}
+use Rattle.px_lex.specs.declared.tree.StmtForm.{StmtForm-F}
 use Rattle.px_lex.specs.declared.tree.StmtForm.TheOpen.{StmtForm-F as st}
 use Rattle.px_types.specs.declared.checked.Fact.{Fact}
 use Rattle.px_types.specs.declared.scope.Scope.{Scope}
@@ -57,7 +57,7 @@ followed_by before judges =
     let next = judges before.scope in
     record { keeps = before.keeps && (before.completes && next.keeps); facts = before.facts ++ next.facts; scope = next.scope; completes = next.completes }
 
--- the beginning of a block
+-- the beginning of a block, or a statement that does nothing
 abbrev pub opened : Scope → Judged
 opened scope = record { keeps = true; facts = plain_fact ∷ []; scope = scope; completes = true }
 
@@ -72,19 +72,21 @@ with_local name scope = record scope { locals = scope.locals ++ name ∷ [] }
 abbrev pub all_assigned : Scope → Scope
 all_assigned scope = record scope { assigned = length scope.locals }
 
--- one level of a statement, in a method that is void or not
-abbrev pub judged_step : Bool → StmtForm-F JudgesStmt JudgesStmt → JudgesStmt
-judged_step void (st.Block items) scope = closed scope (fold followed_by (opened scope) items)
-judged_step void st.Empty scope = record { keeps = true; facts = plain_fact ∷ []; scope = scope; completes = true }
-judged_step void (st.Local ty name value) scope =
-    let v = typed value false (with_local name.bytes scope) in
+abbrev pub judged_block : List JudgesStmt → Scope → Judged
+judged_block items scope = closed scope (fold followed_by (opened scope) items)
+
+abbrev pub judged_local : List ℕ → Expr → Scope → Judged
+judged_local name value scope =
+    let v = typed value false (with_local name scope) in
     record {
-      keeps = is_free name.bytes scope.locals && fits_long v.fact.ty;
+      keeps = is_free name scope.locals && fits_long v.fact.ty;
       facts = record { ty = None; named = Local (length scope.locals) } ∷ all_facts v;
-      scope = all_assigned (with_local name.bytes scope);
+      scope = all_assigned (with_local name scope);
       completes = true;
     }
-judged_step void (st.Assign place value) scope =
+
+abbrev pub judged_assign : Expr → Expr → Scope → Judged
+judged_assign place value scope =
     let p = typed place false scope in
     let v = typed value false scope in
     record {
@@ -93,15 +95,22 @@ judged_step void (st.Assign place value) scope =
       scope = scope;
       completes = true;
     }
-judged_step void (st.Return value) scope =
+
+abbrev pub judged_return : Bool → Option Expr → Scope → Judged
+judged_return void value scope =
     let v = map_option (λ x. typed x false scope) value in
     record { keeps = returns void v; facts = plain_fact ∷ returned_facts v; scope = scope; completes = false }
 
+-- one level of a statement, in a method that is void or not
+abbrev pub judged_step : Bool → StmtForm-F JudgesStmt JudgesStmt → JudgesStmt
+judged_step void (st.Block items) = judged_block items
+judged_step void st.Empty = opened
+judged_step void (st.Local ty name value) = judged_local name.bytes value
+judged_step void (st.Assign place value) = judged_assign place value
+judged_step void (st.Return value) = judged_return void value
+
 abbrev pub whole : Stmt-F JudgesStmt JudgesStmt → JudgesStmt
 whole x = x.form
-
-unfoldable pub judged_form : Bool → StmtForm → JudgesStmt
-judged_form void = fold-StmtForm JudgesStmt JudgesStmt (judged_step void) whole
 
 unfoldable pub judged_stmt : Bool → Stmt → JudgesStmt
 judged_stmt void = fold-Stmt JudgesStmt JudgesStmt (judged_step void) whole

@@ -8,6 +8,7 @@ mod fields;
 mod literal;
 mod names;
 mod scope;
+mod statement;
 
 pub use checked::{Checked, Entry, Fact, Named};
 pub use error::CheckError;
