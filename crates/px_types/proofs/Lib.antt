@@ -1,4 +1,5 @@
 pub mod Mapped
 pub mod Decimals
 pub mod Forms
+pub mod Statements
 pub mod Steps

@@ -20,6 +20,7 @@ const PLAIN: Fact = Fact {
 impl Scope {
     /// Whether a statement can complete normally. Adds what is known of it and of what is in it. `void` tells whether its method is.
     #[cycle(statement)]
+    #[tactic(auto, using(crate::proofs::Statements::statements))]
     pub fn statement(
         &mut self,
         alloc: Global,
