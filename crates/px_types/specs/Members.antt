@@ -34,6 +34,9 @@ methods_of program = methods_in (members_in program.classes)
 abbrev pub method_name : Method → List ℕ
 method_name m = m.name.bytes
 
+abbrev pub param_name : Param → List ℕ
+param_name p = p.name.bytes
+
 -- the names of a method's parameters
 abbrev pub params_of : Method → List (List ℕ)
-params_of m = map (λ (p : Param). p.name.bytes) m.params
+params_of m = map param_name m.params

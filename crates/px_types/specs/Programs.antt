@@ -13,6 +13,7 @@ use Rattle.px_lex.specs.declared.tree.Param.{Param}
 use Rattle.px_lex.specs.declared.tree.TypeName.{TypeName}
 use Rattle.px_types.specs.declared.checked.Fact.{Fact}
 use Rattle.px_types.specs.declared.checked.Entry.{Entry}
+use Rattle.px_types.specs.declared.program.Known.{Known}
 use Rattle.px_types.specs.declared.scope.Scope.{Scope}
 use Rattle.px_types.specs.Names.{all_new, all_free}
 use Rattle.px_types.specs.Members.{fields_of, methods_of, method_name, params_of}
@@ -92,11 +93,6 @@ abbrev pub program_keeps : Program → Bool
 program_keeps program =
     is_main program.classes && fields_keep (fields_of program) && methods_keep (methods_of program) && list_all (method_keeps (fields_of program)) (methods_of program)
 
--- what is known of a program that keeps the rules
-pub record Known : Type 0 where
-  pub facts : List Fact
-  pub entries : List Entry
-
--- None where a rule is broken
+-- what is known of a program that keeps the rules, or None
 unfoldable pub judged : Program → Option Known
 judged program = if program_keeps program then Some (record { facts = facts_of (fields_of program) (methods_of program); entries = entries_from 1 (methods_of program) }) else None

@@ -6,7 +6,9 @@ mod error;
 mod expression;
 mod fields;
 mod literal;
+mod method;
 mod names;
+mod program;
 mod scope;
 mod statement;
 

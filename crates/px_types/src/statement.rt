@@ -33,6 +33,7 @@ impl Scope {
         ensures scope { OnOk result (self.new ≡ (judged_stmt void s.now self.old).scope) }
         ensures facts { OnOk result (facts.new ≡ facts.old ++ (judged_stmt void s.now self.old).facts) }
         ensures faulty { IsErrOf result CheckError.Faulty → (judged_stmt void s.now self.old).keeps ≡ false }
+        ensures fields { self.new.fields ≡ self.old.fields }
     {
         match &s.form {
             StmtForm::Block(items) => self.block(alloc, facts, items.as_slice(), void),
@@ -68,6 +69,7 @@ impl Scope {
         ensures scope { OnOk result (self.new ≡ (judged_block (map (judged_stmt void) items.now) self.old).scope) }
         ensures facts { OnOk result (facts.new ≡ facts.old ++ (judged_block (map (judged_stmt void) items.now) self.old).facts) }
         ensures faulty { IsErrOf result CheckError.Faulty → (judged_block (map (judged_stmt void) items.now) self.old).keeps ≡ false }
+        ensures fields { self.new.fields ≡ self.old.fields }
     {
         let count = self.locals.len();
         let assigned = self.assigned;
@@ -96,6 +98,7 @@ impl Scope {
         ensures scope { OnOk result (self.new ≡ (judged_local name.now value.now self.old).scope) }
         ensures facts { OnOk result (facts.new ≡ facts.old ++ (judged_local name.now value.now self.old).facts) }
         ensures faulty { IsErrOf result CheckError.Faulty → (judged_local name.now value.now self.old).keeps ≡ false }
+        ensures fields { self.new.fields ≡ self.old.fields }
     {
         facts.push(Fact {
             ty: None,

@@ -10,4 +10,5 @@ invariant-block-loop-item l = record {
   so_far : (facts : List Fact) × (l.facts ≡ l.fn.facts ++ facts)
       × (fold followed_by (opened l.fn.self) (map (judged_stmt l.fn.void) l.fn.items)
       ≡ fold followed_by (record { keeps = true; facts = facts; scope = l.self; completes = l.completes }) (map (judged_stmt l.fn.void) (drop l.item-index l.fn.items)));
+  fields : l.self.fields ≡ l.fn.self.fields;
 }
