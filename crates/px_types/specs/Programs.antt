@@ -62,8 +62,11 @@ abbrev pub long_if : Option TypeName → Option Ty
 long_if None = None
 long_if (Some name) = Some Long
 
+abbrev pub long_param : Param → Ty
+long_param p = Long
+
 abbrev pub entry_of : ℕ → Method → Entry
-entry_of number m = record { name = m.name.bytes; method = number; params = map (λ (p : Param). Long) m.params; gives = long_if m.gives }
+entry_of number m = record { name = m.name.bytes; method = number; params = map long_param m.params; gives = long_if m.gives }
 
 abbrev pub entry_if : Access → Entry → List Entry
 entry_if Public entry = entry ∷ []

@@ -2,10 +2,12 @@
 #![tactic(auto)]
 
 mod checked;
+mod entries;
 mod error;
 mod expression;
 mod fields;
 mod literal;
+mod members;
 mod method;
 mod names;
 mod program;
@@ -14,3 +16,4 @@ mod statement;
 
 pub use checked::{Checked, Entry, Fact, Named};
 pub use error::CheckError;
+pub use program::{Known, check};
