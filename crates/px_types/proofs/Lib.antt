@@ -3,3 +3,4 @@ pub mod Decimals
 pub mod Forms
 pub mod Statements
 pub mod Steps
+pub mod Programs
