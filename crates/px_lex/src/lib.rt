@@ -1,9 +1,20 @@
 //! The tokens of a program text, and its syntax tree.
 #![tactic(auto)]
 
+mod ahead;
+mod keyword;
 mod lexeme;
+mod lexer;
+mod piece;
+mod scan;
+mod text;
 mod token;
 pub mod tree;
+mod word;
 
 pub use lexeme::{Lexeme, Word};
+pub use lexer::lex;
+pub use piece::{Piece, first_piece};
+pub use text::spelling;
 pub use token::{Token, TokenKind};
+pub use word::lexemes;

@@ -1,0 +1,5 @@
+pub mod Reaches
+pub mod Sizes
+pub mod Cuts
+pub mod Lexing
+pub mod Closings
