@@ -1,8 +1,9 @@
 -- The tokens, piece by piece.
-use Rattle.std.proofs.Common.{◌≡◌, ℕ, zero, suc, ◌+◌, ◌<◌, ◌≤◌, ◌-◌, List, [], ◌∷◌, ◌++◌, length, take, drop, refl, sym, ap, ◌∙◌, arith, append_assoc, length-drop}
+use Rattle.std.proofs.Common.{◌≡◌, ℕ, zero, suc, ◌+◌, ◌<◌, ◌≤◌, ◌-◌, List, [], ◌∷◌, ◌++◌, length, take, drop, refl, sym, ap, ◌∙◌, arith, append_assoc, length-append, length-drop}
 use Rattle.std.proofs.lemmas.List.{take_rest}
 use Rattle.std.proofs.lemmas.Grind.{common_steps}
 use Rattle.px_lex.specs.declared.piece.Piece.{Piece}
+use Rattle.px_lex.specs.declared.piece.Piece.TheVariants.{Between, Token}
 use Rattle.px_lex.specs.declared.token.TokenKind.TheVariants.{End}
 use Rattle.px_lex.specs.declared.token.Token.{Token as TokenData}
 use Rattle.px_lex.specs.Pieces.{piece_of, size_of}
@@ -17,7 +18,7 @@ cut_end : (n from line : ℕ) → cut n from line [] ≡ token_of End from from 
 unfolding cut
 cut_end n from line = refl
 
-dropped : (a b : ℕ) (bs : List ℕ) → drop a (drop b bs) ≡ drop (b + a) bs
+pub dropped : (a b : ℕ) (bs : List ℕ) → drop a (drop b bs) ≡ drop (b + a) bs
 dropped a b bs = grind (arith, common_steps)
 
 one_more : (all old : List TokenData) (m from line : ℕ) (bytes left : List ℕ) → left ≡ drop from bytes → 0 < length left → all ≡ old ++ cut (suc m) from line (drop from bytes) → all ≡ (old ++ shown (piece_of left) from line) ++ cut m (from + size_of (piece_of left)) (line + lines_in (take (size_of (piece_of left)) left)) (drop (from + size_of (piece_of left)) bytes)
@@ -47,3 +48,11 @@ more_some p q more e s h = rw (s, e) h
 
 pub more_within : (p q : Piece) (more n : ℕ) → p ≡ q → more ≡ size_of p → size_of q ≤ n → more ≤ n
 more_within p q more n e s h = rw (s, e) h
+
+-- a piece puts one token at most
+pub shown_few : (p : Piece) (from line : ℕ) → length (shown p from line) ≤ 1
+shown_few (Between n) from line = omega arith
+shown_few (Token k n) from line = omega arith
+
+pub shows_few : (now old : List TokenData) (p : Piece) (from line more : ℕ) → now ≡ old ++ shown p from line → 0 < more → length old ≤ from → length now ≤ from + more
+shows_few now old p from line more e some few = omega (arith, ap length e ∙ length-append old (shown p from line), shown_few p from line)

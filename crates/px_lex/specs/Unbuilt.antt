@@ -46,17 +46,20 @@ is_unbuilt again before Dot after = not (is_this before)
 is_unbuilt again before Long after = is_close after
 is_unbuilt again before _ after = false
 
--- the word with this number is of such a form; before the first and after the last stands none
+abbrev pub words_in : List Lexeme → List Word
+words_in lexemes = map (λ (l : Lexeme). l.word) lexemes
+
+-- the word with this number; before the first and after the last stands none
+abbrev pub word_in : List Lexeme → ℕ → Word
+word_in lexemes number = slice_index_or (words_in lexemes) number End
+
 abbrev pub is_unbuilt_at : List Word → ℕ → Bool
 is_unbuilt_at words k =
     is_unbuilt (list_any is_class (take k words)) (slice_index_or (End ∷ words) k End) (slice_index_or words k End) (slice_index_or words (k + 1) End)
 
--- the number of the first such word
+-- the number of the first word of such a form
 abbrev pub first_unbuilt_word : List Word → Option ℕ
 first_unbuilt_word words = find (is_unbuilt_at words) (range_with_len 0 (length words))
-
-abbrev pub words_of : List ℕ → List Word
-words_of bytes = map (λ (l : Lexeme). l.word) (lexemes_of bytes (tokens_of bytes))
 
 -- the line of the token with this number
 abbrev pub line_at : List Token → ℕ → ℕ
@@ -64,4 +67,4 @@ line_at tokens number = slice_index (map (λ (t : Token). t.line) tokens) number
 
 -- the line of the first form that isn't built yet
 abbrev pub unbuilt_line : List ℕ → Option ℕ
-unbuilt_line bytes = option_map (line_at (tokens_of bytes)) (first_unbuilt_word (words_of bytes))
+unbuilt_line bytes = option_map (line_at (tokens_of bytes)) (first_unbuilt_word (words_in (lexemes_of bytes (tokens_of bytes))))

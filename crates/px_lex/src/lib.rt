@@ -10,6 +10,7 @@ mod scan;
 mod text;
 mod token;
 pub mod tree;
+mod unbuilt;
 mod word;
 
 pub use lexeme::{Lexeme, Word};
@@ -17,4 +18,5 @@ pub use lexer::lex;
 pub use piece::{Piece, first_piece};
 pub use text::spelling;
 pub use token::{Token, TokenKind};
+pub use unbuilt::first_unbuilt;
 pub use word::lexemes;

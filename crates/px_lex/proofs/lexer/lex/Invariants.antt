@@ -6,6 +6,7 @@ abbrev pub invariant-loop-from : goal.invariant-loop-from
 invariant-loop-from l = record {
   within : l.from ≤ length l.bytes;
   few : l.line ≤ l.from + 1;
+  count : length l.tokens.items ≤ l.from;
   same : (n : ℕ) × (length l.bytes ≤ n + l.from) × (cut (length l.bytes) 0 1 l.bytes ≡ l.tokens.items ++ cut n l.from l.line (drop l.from l.bytes));
 }
 
