@@ -1,5 +1,5 @@
 -- The lexemes, token by token.
-use Rattle.std.proofs.Common.{◌≡◌, ℕ, ◌+◌, ◌<◌, List, [], ◌∷◌, ◌++◌, length, take, get_or, ap, sym, ◌∙◌, arith}
+use Rattle.std.proofs.Common.{◌≡◌, ℕ, suc, refl, ◌+◌, ◌<◌, List, [], ◌∷◌, ◌++◌, length, take, get_or, ap, sym, ◌∙◌, arith}
 use Rattle.std.proofs.lemmas.List.{take_more}
 use Rattle.std.proofs.lemmas.Grind.{common_steps}
 use Rattle.px_lex.specs.declared.token.Token.{Token}
@@ -20,3 +20,11 @@ of_more bytes tokens n d h = ap (lexemes_of bytes) (take_more tokens n d h) ∙ 
 -- a step of the loop over the tokens
 pub lexemes_more : (now old : List Lexeme) (lexeme : Lexeme) (bytes : List ℕ) (tokens : List Token) (n : ℕ) (d : Token) → n < length tokens → now ≡ old ++ lexeme ∷ [] → lexeme ≡ lexeme_of bytes n (get_or tokens n d) → old ≡ lexemes_of bytes (take n tokens) → now ≡ lexemes_of bytes (take (n + 1) tokens)
 lexemes_more now old lexeme bytes tokens n d h put is before = put ∙ rw (before, is) (sym (of_more bytes tokens n d h))
+
+from_length : (bytes : List ℕ) (number : ℕ) (tokens : List Token) → length (lexemes_from bytes number tokens) ≡ length tokens
+from_length bytes number [] = refl
+from_length bytes number (t ∷ ts) = ap suc (from_length bytes (number + 1) ts)
+
+-- one lexeme for each token
+pub length_lexemes : (bytes : List ℕ) (tokens : List Token) → length (lexemes_of bytes tokens) ≡ length tokens
+length_lexemes bytes tokens = from_length bytes 0 tokens

@@ -3,3 +3,4 @@ pub mod Sizes
 pub mod Cuts
 pub mod Lexing
 pub mod Closings
+pub mod Forms

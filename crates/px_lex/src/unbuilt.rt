@@ -1,7 +1,6 @@
 //! The first form of a program that isn't built yet.
-ghost use Rattle.std.specs.Prelude.{◌≡◌, ◌<◌, ◌^◌, length, find, map, IfOk};
-ghost use Rattle.std.specs.List.{range_with_len};
-ghost use Rattle.px_lex.specs.Unbuilt.{is_class, is_name, is_this, is_open, is_close, is_result, is_unbuilt, is_unbuilt_at, first_unbuilt_word, word_in, words_in, unbuilt_line};
+ghost use Rattle.std.specs.Prelude.{◌≡◌, ◌<◌, ◌^◌, length, IfOk, IfSome};
+ghost use Rattle.px_lex.specs.Unbuilt.{is_class, is_name, is_this, is_open, is_close, is_result, is_unbuilt, first_unbuilt_word, word_in, words_in, unbuilt_line};
 
 use crate::lexeme::{Lexeme, Word};
 use crate::lexer::lex;
@@ -71,7 +70,8 @@ fn word_in(lexemes: &[Lexeme], at: usize) -> Word
 
 // The number of the first lexeme of a form that isn't built.
 fn first_unbuilt_word(lexemes: &[Lexeme]) -> Option<usize>
-    ensures { result ≡ first_unbuilt_word (words_in lexemes.now) }
+    ensures is { result ≡ first_unbuilt_word (words_in lexemes.now) }
+    ensures within { IfSome result (λ at. at < length lexemes.now) }
 {
     let mut again = false;
     let mut before = Word::End;
@@ -80,7 +80,7 @@ fn first_unbuilt_word(lexemes: &[Lexeme]) -> Option<usize>
         if is_unbuilt(again, before, word, word_in(lexemes, at + 1)) {
             return Some(at);
         }
-        again = again || is_class(word);
+        again |= is_class(word);
         before = word;
     }
     None
