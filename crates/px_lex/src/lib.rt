@@ -15,8 +15,10 @@ mod word;
 
 pub use lexeme::{Lexeme, Word};
 pub use lexer::lex;
-pub use piece::{Piece, first_piece};
 pub use text::spelling;
 pub use token::{Token, TokenKind};
 pub use unbuilt::first_unbuilt;
 pub use word::lexemes;
+
+#[cfg(test)]
+mod tests;
