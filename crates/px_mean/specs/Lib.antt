@@ -1,0 +1,6 @@
+pub mod Outcome
+pub mod Operators
+pub mod Effects
+pub mod Facts
+pub mod Exec
+pub mod Serial

@@ -1,0 +1,6 @@
+//! What a program means.
+#![tactic(auto)]
+
+mod reply;
+
+pub use reply::Reply;
