@@ -1,5 +1,5 @@
 -- The meaning of the source tree, by structure (JLS 8.4, 14, 15).
-use Rattle.std.specs.Prelude.{ℕ, zero, suc, ◌+◌, ◌-◌, ◌*◌, length, take, ◌++◌, Bool, true, false, List, [], ◌∷◌, map, Option, Some, None, unwrap_or, slice_get, slice_set, pos, Ok, Err}
+use Rattle.std.specs.Prelude.{ℕ, zero, suc, length, take, ◌++◌, Bool, true, false, List, [], ◌∷◌, map, Option, Some, None, unwrap_or, slice_get, slice_set, pos, Ok, Err}
 use Rattle.std.specs.Int.{int_wrap, w32, w64}
 use Rattle.px_value.specs.declared.value.Value.{Value}
 use Rattle.px_value.specs.declared.value.Value.TheVariants.{Int, Long, Null, Ref}
@@ -15,6 +15,7 @@ use Rattle.px_lex.specs.declared.tree.ExprForm.TheOpen.{ExprForm-F as e}
 use Rattle.px_lex.specs.declared.tree.Stmt.{Stmt, Stmt-F, fold-Stmt}
 use Rattle.px_lex.specs.declared.tree.StmtForm.{StmtForm-F}
 use Rattle.px_lex.specs.declared.tree.StmtForm.TheOpen.{StmtForm-F as st}
+use Rattle.px_types.specs.Literals.{decimal_value}
 use Rattle.px_types.specs.declared.checked.Named.{Named}
 use Rattle.px_types.specs.declared.checked.Named.TheVariants as named
 use Rattle.px_mean.specs.Outcome.{Outcome, Gives, Throws, Asks, Run, ◌>>=◌, pure, throw, State, Shared, on_shared, Flow, Goes, Returns, in_order}
@@ -49,11 +50,6 @@ widened from to v = Ok v
 
 abbrev pub fit : {Q S : Type 0} → Ty → Ty → Value → Run Q S Value
 fit from to v = came_to (widened from to v)
-
--- the value of a list of decimal digits (JLS 3.10.1)
-abbrev pub decimal_value : List ℕ → ℕ → ℕ
-decimal_value [] n = n
-decimal_value (d ∷ ds) n = decimal_value ds (n * 10 + (d - 48))
 
 abbrev pub literal : List ℕ → Bool → Value
 literal digits true = Long (int_wrap w64 (pos (decimal_value digits 0)))

@@ -1,5 +1,5 @@
 -- Entry calls, and the serial run.
-use Rattle.std.specs.Prelude.{ℕ, suc, ◌+◌, ◌-◌, List, [], ◌∷◌, length, map, replicate, Option, Some, None, slice_get, slice_set, pos, false}
+use Rattle.std.specs.Prelude.{ℕ, zero, suc, ◌+◌, List, [], ◌∷◌, ◌++◌, length, map, replicate, Option, Some, None, slice_get, slice_set, pos, false}
 use Rattle.px_value.specs.declared.value.Value.{Value}
 use Rattle.px_value.specs.declared.value.Value.TheVariants.{Int, Long, Bool as Truth, Null}
 use Rattle.px_value.specs.declared.ty.Ty.{Ty}
@@ -8,15 +8,16 @@ use Rattle.px_value.specs.declared.header.Kind.TheVariants as kind
 use Rattle.px_value.specs.declared.object.Object.{Object}
 use Rattle.px_mean.specs.declared.reply.Reply.{Reply}
 use Rattle.px_mean.specs.declared.reply.Reply.TheVariants as reply
+use Rattle.px_mean.specs.declared.serial.Session.{Session}
+use Rattle.px_mean.specs.declared.serial.Made.{Made}
 use Rattle.px_mean.specs.Outcome.{Outcome, Gives, Throws, Asks, Shared}
 use Rattle.px_mean.specs.Facts.{Facts}
 use Rattle.px_mean.specs.Exec.{Body, exec}
 
--- a program as its calls need it: what is known of its statements and expressions, its methods, and the types of the fields of Main
+-- a program as its calls need it: what is known of its statements and expressions, and its methods
 pub record Meaning : Type 0 where
   pub facts : Facts
   pub bodies : List Body
-  pub fields : List Ty
 
 -- ---- an entry call
 
@@ -38,7 +39,7 @@ ended heap world (Throws t s) = record { reply = reply.Threw t; heap = heap; wor
 ended heap world (Asks q) = absurd q
 
 unfoldable pub call_of : {W : Type 0} → Meaning → List Object → W → ℕ → List Value → Called W
-call_of P heap world entry args = ended heap world (exec P.facts P.bodies heap world entry args)
+call_of P heap world method args = ended heap world (exec P.facts P.bodies heap world method args)
 
 -- ---- the serial run
 
@@ -50,7 +51,7 @@ default_of ty.Bool = Truth false
 default_of ty.Text = Null
 default_of ty.Ref = Null
 
--- a session's first heap: one object of Main
+-- a session's first heap: one object of Main, with these fields
 abbrev pub first_heap : List Ty → List Object
 first_heap fields = record { header = record { kind = kind.Object 0; site = 0; length = length fields }; cells = map default_of fields } ∷ []
 
@@ -60,35 +61,46 @@ pub record Call : Type 0 where
   pub method : ℕ
   pub args : List Value
 
--- what a session has: its heap, and how many calls it has made
-pub record Session : Type 0 where
-  pub heap : List Object
-  pub calls : ℕ
-
--- a call that was made: its session, its number among the session's calls from 1, and its reply
-pub record Made : Type 0 where
-  pub session : ℕ
-  pub number : ℕ
-  pub reply : Reply
-
+-- what calls leave: those that were made in order, the sessions, and the world
 pub record Served (W : Type 0) : Type 0 where
   pub made : List Made
   pub sessions : List Session
   pub world : W
 
--- one call by the session with its number; a session that isn't there calls nothing
-abbrev pub call_by : {W : Type 0} → Meaning → Call → Option Session → List Session → W → (List Session → W → Served W) → Served W
-call_by P c None sessions world rest = rest sessions world
-call_by P c (Some s) sessions world rest =
+-- sessions are numbered from 1
+abbrev pub session_at : List Session → ℕ → Option Session
+session_at sessions zero = None
+session_at sessions (suc n) = slice_get sessions n
+
+abbrev pub with_session : List Session → ℕ → Session → List Session
+with_session sessions zero s = sessions
+with_session sessions (suc n) s = slice_set sessions n s
+
+-- one call by the session of its number; a session that isn't there makes none
+abbrev pub call_by : {W : Type 0} → Meaning → Call → Option Session → List Session → W → Served W
+call_by P c None sessions world = record { made = []; sessions = sessions; world = world }
+call_by P c (Some s) sessions world =
     let called = call_of P s.heap world c.method c.args in
-    let after = rest (slice_set sessions (c.session - 1) (record { heap = called.heap; calls = s.calls + 1 })) called.world in
-    record after { made = record { session = c.session; number = s.calls + 1; reply = called.reply } ∷ after.made }
+    record {
+      made = record { session = c.session; number = s.calls + 1; reply = called.reply } ∷ [];
+      sessions = with_session sessions c.session (record { heap = called.heap; calls = s.calls + 1 });
+      world = called.world;
+    }
+
+abbrev pub one_call : {W : Type 0} → Meaning → Call → List Session → W → Served W
+one_call P c sessions world = call_by P c (session_at sessions c.session) sessions world
+
+abbrev pub after : {W : Type 0} → List Made → Served W → Served W
+after made served = record served { made = made ++ served.made }
 
 -- the calls one at a time, in order
 unfoldable pub served : {W : Type 0} → Meaning → List Call → List Session → W → Served W
 served P [] sessions world = record { made = []; sessions = sessions; world = world }
-served P (c ∷ calls) sessions world = call_by P c (slice_get sessions (c.session - 1)) sessions world (λ sessions world. served P calls sessions world)
+served P (c ∷ calls) sessions world = let one = one_call P c sessions world in after one.made (served P calls one.sessions one.world)
+
+abbrev pub first_session : List Ty → Session
+first_session fields = record { heap = first_heap fields; calls = 0 }
 
 -- the serial run of a job's calls by so many sessions
-abbrev pub serial : {W : Type 0} → Meaning → ℕ → W → List Call → Served W
-serial P sessions world calls = served P calls (replicate sessions (record { heap = first_heap P.fields; calls = 0 })) world
+abbrev pub serial : {W : Type 0} → Meaning → List Ty → ℕ → W → List Call → Served W
+serial P fields sessions world calls = served P calls (replicate sessions (first_session fields)) world

@@ -2,5 +2,7 @@
 #![tactic(auto)]
 
 mod reply;
+mod serial;
 
 pub use reply::Reply;
+pub use serial::{Made, Session};

@@ -1,7 +1,8 @@
 //! The operators on values.
 ghost use Rattle.std.specs.Prelude.{◌≡◌, ◌%◌, ◌^◌, true, false, Ok, Some};
 ghost use Rattle.px_mean.specs.Operators as mean;
-ghost use Rattle.px_mean.specs.Exec.{literal as mean_literal, decimal_value, widened as mean_widened, prefixed as mean_prefixed};
+ghost use Rattle.px_mean.specs.Exec.{literal as mean_literal, widened as mean_widened, prefixed as mean_prefixed};
+ghost use Rattle.px_types.specs.Literals.{decimal_value};
 ghost use Rattle.px_mean.specs.Facts.{op_of as mean_op_of, prefix_of};
 
 use px_lex::tree::Sign;

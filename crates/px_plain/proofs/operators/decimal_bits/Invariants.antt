@@ -1,5 +1,5 @@
 use Rattle.std.proofs.Common.{◌≡◌, ◌%◌, ◌^◌, drop}
-use Rattle.px_mean.specs.Exec.{decimal_value}
+use Rattle.px_types.specs.Literals.{decimal_value}
 use Rattle.px_plain.proofs.operators.decimal_bits.Given as goal
 
 abbrev pub invariant-loop-digit : goal.invariant-loop-digit
