@@ -1,2 +1,3 @@
 pub mod Undo
 pub mod View
+pub mod Serial

@@ -1,5 +1,6 @@
 -- What a machine stands for, and how its calls meet the meaning.
-use Rattle.std.specs.Prelude.{◌≡◌, List, Option, Some, None, Result, Ok, Err}
+use Rattle.std.specs.Prelude.{◌≡◌, List, map, Option, Some, None, Result, Ok, Err}
+use Rattle.std.specs.Borrow.{Bor}
 use Rattle.px_value.specs.declared.value.Value.{Value}
 use Rattle.px_value.specs.declared.ty.Ty.{Ty}
 use Rattle.px_lex.specs.declared.tree.Expr.{Expr}
@@ -8,7 +9,9 @@ use Rattle.px_types.specs.declared.checked.Fact.{Fact}
 use Rattle.px_mean.specs.Outcome.{Outcome, Gives, Throws, Flow, Goes, Returns}
 use Rattle.px_mean.specs.Facts.{facts_in}
 use Rattle.px_mean.specs.Exec.{Frame, Meant, meant, done_by}
+use Rattle.px_mean.specs.Serial.{Called}
 use Rattle.px_plain.specs.Undo.{undone}
+use Rattle.px_plain.specs.declared.entry_call.Called.{Called as CalledData}
 use Rattle.px_plain.specs.declared.machine.Machine.{Machine}
 use Rattle.px_plain.specs.declared.machine.Stop.{Stop}
 use Rattle.px_plain.specs.declared.machine.Stop.TheVariants as stop
@@ -57,3 +60,11 @@ abbrev pub IfKept : {A : Type 0} → Result A Stop → Type 0 → Type 0
 IfKept (Ok v) P = P
 IfKept (Err (stop.Threw t)) P = P
 IfKept (Err stop.NoMemory) P = Unit {0}
+
+-- ---- entry calls
+
+abbrev pub left_by : CalledData → Called (Unit {0})
+left_by c = record { reply = c.reply; heap = c.heap; world = tt }
+
+abbrev pub all_now : {A : Type 0} → List (Bor A) → List A
+all_now xs = map (λ x. x.now) xs

@@ -6,11 +6,12 @@ ghost use Rattle.px_mean.specs.Outcome.{in_order, on_shared, then_run};
 ghost use Rattle.px_mean.specs.Facts.{facts_in, named_ty};
 ghost use Rattle.px_mean.specs.Exec.{name_value, put_name, member_value, put_member, with_slots, fit, returned, map_option};
 ghost use Rattle.px_mean.specs.Effects.{get_field, put_field};
+ghost use Rattle.px_plain.specs.Undo.{undone};
 ghost use Rattle.px_plain.specs.View.{frame_of, says, does, Ends, EndsFlow, Keeps, IfKept};
 ghost use Rattle.px_plain.specs.declared.machine.Stop.TheVariants.{NoMemory};
 
 use crate::operators::{apply, literal, op_of, prefixed, widened};
-use crate::undo::{Change, write};
+use crate::undo::{Change, take_back, write};
 use px_lex::tree::{Base, Expr, ExprForm, Stmt, StmtForm, TypeName};
 use px_types::{Fact, Named};
 use px_value::{Heap, Thrown, Ty, Value};
@@ -77,7 +78,7 @@ fn named_at(facts: &[Fact], id: u32) -> Named
     }
 }
 
-fn type_named(ty: TypeName) -> Ty
+pub fn type_named(ty: TypeName) -> Ty
     ensures { result ≡ named_ty ty }
 {
     match ty.base {
@@ -96,6 +97,23 @@ fn copied(alloc: Global, value: Option<&Value>) -> Result<Value, AllocError>
 }
 
 impl Machine {
+    /// The heap that was reached.
+    pub fn into_heap(self) -> Heap
+        ensures { result ≡ self.heap }
+    {
+        let Machine { heap, .. } = self;
+        heap
+    }
+
+    /// The heap as it was when the call began.
+    pub fn into_old_heap(self) -> Heap
+        ensures { result ≡ undone self.undo.items self.heap }
+    {
+        let Machine { mut heap, undo, .. } = self;
+        take_back(&mut heap, undo);
+        heap
+    }
+
     fn field(&self, alloc: Global, object: &Value, place: u16) -> Result<Value, Stop>
         ensures { Ends (frame_of self.now) result (on_shared (get_field object.now place) (frame_of self.now)) }
     {
