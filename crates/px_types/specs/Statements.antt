@@ -1,5 +1,5 @@
 -- The rules of statements (JLS 6.3, 14).
-use Rattle.std.specs.Prelude.{ℕ, Bool, true, false, not, ◌&&◌, List, [], ◌∷◌, ◌++◌, length, take, fold, Option, Some, None, is_some}
+use Rattle.std.specs.Prelude.{ℕ, Bool, true, false, ◌&&◌, List, [], ◌∷◌, ◌++◌, length, take, fold, Option, Some, None, is_some}
 use Rattle.std.specs.Option.{option_map}
 use Rattle.px_lex.specs.declared.tree.Expr.{Expr}
 use Rattle.px_lex.specs.declared.tree.ExprForm.{ExprForm, ExprForm-F, out-ExprForm}
@@ -9,7 +9,6 @@ use Rattle.px_lex.specs.declared.tree.StmtForm.{StmtForm-F}
 use Rattle.px_lex.specs.declared.tree.StmtForm.TheOpen.{StmtForm-F as st}
 use Rattle.px_types.specs.declared.checked.Fact.{Fact}
 use Rattle.px_types.specs.declared.scope.Scope.{Scope}
-use Rattle.px_types.specs.declared.checked.Named.{Named}
 use Rattle.px_types.specs.declared.checked.Named.TheVariants.{Nothing, Local}
 use Rattle.px_types.specs.Names.{is_free}
 use Rattle.px_types.specs.Expressions.{Typed, all_facts, fits_long, typed}

@@ -1,8 +1,8 @@
-use Rattle.std.proofs.Common.{◌≡◌, ◌&&◌, Some, Err, ap, sym, ◌∙◌}
+use Rattle.std.proofs.Common.{◌&&◌, Some, Err, ap, sym, ◌∙◌}
 use Rattle.std.specs.List.{list_all}
 use Rattle.px_types.specs.Members.{fields_in, methods_in}
 use Rattle.px_types.specs.Programs.{methods_keep, method_keeps, facts_of}
-use Rattle.px_types.proofs.Programs.{refused, accepted, not_main}
+use Rattle.px_types.proofs.Programs.{refused, accepted}
 use Rattle.px_types.proofs.Steps.{handed_on}
 use Rattle.px_types.proofs.program.judge.Goals as goal
 
