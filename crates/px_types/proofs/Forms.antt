@@ -4,14 +4,14 @@ use Rattle.px_value.specs.declared.ty.Ty.TheVariants.{Int, Long, Bool as Truth, 
 use Rattle.px_value.specs.declared.ty.Ty.{Ty}
 use Rattle.px_lex.specs.declared.tree.Sign.{Sign}
 use Rattle.px_lex.specs.declared.tree.Name.{Name as NameOf}
-use Rattle.px_lex.specs.declared.tree.Expr.{Expr, fold-Expr, fold_out-Expr}
+use Rattle.px_lex.specs.declared.tree.Expr.{Expr, fold_out-Expr}
 use Rattle.px_lex.specs.declared.tree.ExprForm.{ExprForm, ExprForm-F, fold-ExprForm, fold-roll-ExprForm, roll-ExprForm, map-ExprForm}
 use Rattle.px_lex.specs.declared.tree.ExprForm.TheVariants.{Number, rolls-Number, This, rolls-This, Name, rolls-Name, Group, rolls-Group, Field, rolls-Field, Prefix, rolls-Prefix, Binary, rolls-Binary}
 use Rattle.px_lex.specs.declared.tree.ExprForm.TheOpen.{ExprForm-F as f}
 use Rattle.px_types.specs.declared.scope.Scope.{Scope}
 use Rattle.px_types.specs.Names.{place_of}
 use Rattle.px_types.specs.Literals.{number_type}
-use Rattle.px_types.specs.Expressions.{Typed, Judges, all_facts, typed, typed_form, typed_step, whole, leaf, of_type, variable, stands_for, member_of, is_minus, promoted, both_promoted}
+use Rattle.px_types.specs.Expressions.{Judges, all_facts, typed, typed_form, typed_step, whole, leaf, of_type, variable, stands_for, member_of, is_minus, promoted, both_promoted}
 
 pub typed_by_form : (e : Expr) (n : Bool) (s : Scope) → typed e n s ≡ typed_form e.form n s
 unfolding typed typed_form

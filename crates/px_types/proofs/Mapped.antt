@@ -1,5 +1,5 @@
 -- A test of the images of a list.
-use Rattle.std.proofs.Common.{◌≡◌, ℕ, ◌+◌, Bool, not, ◌||◌, cond, nat_lt, List, [], ◌∷◌, length, map, Option, Some, None, refl, ap, position}
+use Rattle.std.proofs.Common.{◌≡◌, ℕ, ◌+◌, Bool, not, ◌||◌, cond, nat_lt, List, [], ◌∷◌, map, Some, None, refl, ap, position}
 use Rattle.std.proofs.lemmas.List.{length-map}
 use Rattle.std.specs.List.{list_any, position_or_len}
 

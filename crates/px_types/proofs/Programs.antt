@@ -1,5 +1,5 @@
 -- A program of which the members are known.
-use Rattle.std.proofs.Common.{◌≡◌, Bool, true, false, ◌&&◌, if◌then◌else◌, List, Some, None, Option, refl, ap, ◌∙◌}
+use Rattle.std.proofs.Common.{◌≡◌, Bool, true, false, ◌&&◌, if◌then◌else◌, List, Some, None, refl, ap, ◌∙◌}
 use Rattle.std.specs.List.{list_all}
 use Rattle.px_lex.specs.declared.tree.Program.{Program}
 use Rattle.px_lex.specs.declared.tree.Member.{Member}

@@ -1,11 +1,11 @@
 -- What is known of each form of a statement, and of a block that has broken a rule.
-use Rattle.std.proofs.Common.{◌≡◌, ℕ, ◌+◌, ◌<◌, Bool, true, false, ◌&&◌, List, [], ◌∷◌, length, get_or, drop, map, Option, refl, sym, ap, ◌∙◌}
+use Rattle.std.proofs.Common.{◌≡◌, ℕ, ◌+◌, ◌<◌, Bool, false, ◌&&◌, List, [], ◌∷◌, length, get_or, drop, map, Option, sym, ap, ◌∙◌}
 use Rattle.std.specs.Prelude.{fold}
 use Rattle.std.proofs.lemmas.List.{drop_more}
 use Rattle.px_lex.specs.declared.tree.Name.{Name}
 use Rattle.px_lex.specs.declared.tree.TypeName.{TypeName}
 use Rattle.px_lex.specs.declared.tree.Expr.{Expr}
-use Rattle.px_lex.specs.declared.tree.Stmt.{Stmt, fold-Stmt, fold_out-Stmt}
+use Rattle.px_lex.specs.declared.tree.Stmt.{Stmt, fold_out-Stmt}
 use Rattle.px_lex.specs.declared.tree.StmtForm.{StmtForm, StmtForm-F, fold-StmtForm, fold-roll-StmtForm, roll-StmtForm, map-StmtForm}
 use Rattle.px_lex.specs.declared.tree.StmtForm.TheVariants.{Block, rolls-Block, Empty, rolls-Empty, Local, rolls-Local, Assign, rolls-Assign, Return, rolls-Return}
 use Rattle.px_lex.specs.declared.tree.StmtForm.TheOpen.{StmtForm-F as f}

@@ -1,5 +1,6 @@
 -- The rules of statements (JLS 6.3, 14).
-use Rattle.std.specs.Prelude.{ℕ, Bool, true, false, not, ◌&&◌, List, [], ◌∷◌, ◌++◌, length, take, fold, Option, Some, None, is_some}
+use Rattle.std.specs.Prelude.{ℕ, Bool, true, false, ◌&&◌, List, [], ◌∷◌, ◌++◌, length, take, fold, Option, Some, None, is_some}
+use Rattle.std.specs.Option.{option_map}
 use Rattle.px_lex.specs.declared.tree.Expr.{Expr}
 use Rattle.px_lex.specs.declared.tree.ExprForm.{ExprForm, ExprForm-F, out-ExprForm}
 use Rattle.px_lex.specs.declared.tree.ExprForm.TheOpen.{ExprForm-F as e}
@@ -8,7 +9,6 @@ use Rattle.px_lex.specs.declared.tree.StmtForm.{StmtForm-F}
 use Rattle.px_lex.specs.declared.tree.StmtForm.TheOpen.{StmtForm-F as st}
 use Rattle.px_types.specs.declared.checked.Fact.{Fact}
 use Rattle.px_types.specs.declared.scope.Scope.{Scope}
-use Rattle.px_types.specs.declared.checked.Named.{Named}
 use Rattle.px_types.specs.declared.checked.Named.TheVariants.{Nothing, Local}
 use Rattle.px_types.specs.Names.{is_free}
 use Rattle.px_types.specs.Expressions.{Typed, all_facts, fits_long, typed}
@@ -42,10 +42,6 @@ returns _ _ = false
 abbrev pub returned_facts : Option Typed → List Fact
 returned_facts None = []
 returned_facts (Some value) = all_facts value
-
-abbrev pub map_option : {A B : Type 0} → (A → B) → Option A → Option B
-map_option f None = None
-map_option f (Some a) = Some (f a)
 
 -- a statement is judged by the scope before it
 abbrev pub JudgesStmt : Type 0
@@ -98,7 +94,7 @@ judged_assign place value scope =
 
 abbrev pub judged_return : Bool → Option Expr → Scope → Judged
 judged_return void value scope =
-    let v = map_option (λ x. typed x false scope) value in
+    let v = option_map (λ x. typed x false scope) value in
     record { keeps = returns void v; facts = plain_fact ∷ returned_facts v; scope = scope; completes = false }
 
 -- one level of a statement, in a method that is void or not

@@ -4,6 +4,7 @@ ghost use Rattle.px_types.specs.Members.{methods_in};
 ghost use Rattle.px_types.specs.Programs.{entry_of as entry_of_method, entry_if, entries_from, long_param, long_if as long_if_named};
 
 use crate::checked::Entry;
+use crate::members::MAX_METHODS;
 use px_lex::tree::{Access, Member, Method, Param, TypeName};
 use px_value::{Text, Ty};
 use sqlite_items::Items;
@@ -11,7 +12,7 @@ use std::alloc::{AllocError, Global};
 
 /// The public methods.
 pub fn entries(alloc: Global, members: &[Member]) -> Result<Items<Entry>, AllocError>
-    requires { length (methods_in members.now) ≤ 2000 }
+    requires { length (methods_in members.now) ≤ MAX_METHODS }
     ensures { IfOk result (λ entries. entries ≡ entries_from 1 (methods_in members.now)) }
 {
     let mut entries = Items::new(alloc);

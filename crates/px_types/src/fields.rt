@@ -17,12 +17,13 @@ pub struct Fields {
 
 impl Model for Fields {
     ghost use Rattle.std.specs.Prelude.{List, ℕ, ◌≤◌, length};
+    ghost use Rattle.px_types.specs.declared.fields.TheConstants.{MAX_FIELDS};
 
     ghost Value = { List (List ℕ) };
 
     ghost view = { λ f. f.names };
 
-    ghost invariant = { λ f. length f.names ≤ 200 };
+    ghost invariant = { λ f. length f.names ≤ MAX_FIELDS };
 }
 
 impl Fields {
@@ -46,8 +47,8 @@ impl Fields {
     pub fn declare(&mut self, alloc: Global, name: &[u8]) -> Result<(), CheckError>
         ensures free { OnOk result (is_free name.now self.old ≡ true) }
         ensures names { OnOk result (self.new ≡ self.old ++ name.now ∷ []) }
-        ensures few { length self.new ≤ 200 }
-        ensures faulty { IsErrOf result CheckError.Faulty → (is_free name.now self.old && nat_lt (length self.old) 200) ≡ false }
+        ensures few { length self.new ≤ MAX_FIELDS }
+        ensures faulty { IsErrOf result CheckError.Faulty → (is_free name.now self.old && nat_lt (length self.old) MAX_FIELDS) ≡ false }
     {
         if self.names.len() == MAX_FIELDS {
             return Err(CheckError::Faulty);

@@ -13,7 +13,7 @@ use px_lex::tree::Member;
 use sqlite_items::Items;
 use std::alloc::Global;
 
-const MAX_METHODS: usize = 2000;
+pub const MAX_METHODS: usize = 2000;
 
 /// The fields, where their names keep the rules.
 pub fn declare_fields(alloc: Global, members: &[Member]) -> Result<Fields, CheckError>
@@ -34,7 +34,7 @@ pub fn declare_fields(alloc: Global, members: &[Member]) -> Result<Fields, Check
 /// Whether the names of the methods keep the rules.
 pub fn check_methods(alloc: Global, members: &[Member]) -> Result<(), CheckError>
     ensures keeps { OnOk result (methods_keep (methods_in members.now) ≡ true) }
-    ensures few { OnOk result (length (methods_in members.now) ≤ 2000) }
+    ensures few { OnOk result (length (methods_in members.now) ≤ MAX_METHODS) }
     ensures faulty { IsErrOf result CheckError.Faulty → methods_keep (methods_in members.now) ≡ false }
 {
     let mut names = Names::new(alloc);

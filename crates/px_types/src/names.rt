@@ -79,5 +79,8 @@ impl Names {
 fn is_reserved(name: &[u8]) -> bool
     ensures { result ≡ has_name name.now reserved }
 {
-    name == "Db".as_bytes() || name == "System".as_bytes() || name == "String".as_bytes() || name == "ResultSet".as_bytes()
+    name == "Db".as_bytes()
+        || name == "System".as_bytes()
+        || name == "String".as_bytes()
+        || name == "ResultSet".as_bytes()
 }

@@ -1,13 +1,13 @@
 //! The rules of a program.
 ghost use Rattle.std.specs.Prelude.{◌≡◌, true, false, Some, None, IfOk, IfSome, IfNone, IsErrOf};
 ghost use Rattle.px_types.specs.Members.{members_in};
-ghost use Rattle.px_types.specs.Programs.{is_main as is_one_main, judged};
+ghost use Rattle.px_types.specs.Programs.{is_main, judged};
 
 use crate::checked::{Checked, Entry, Fact};
 use crate::entries::entries;
 use crate::error::CheckError;
 use crate::members::{check_bodies, check_methods, declare_fields};
-use px_lex::tree::{Class, Program};
+use px_lex::tree::{Member, Program};
 use sqlite_items::Items;
 use std::alloc::Global;
 
@@ -31,15 +31,14 @@ pub fn check(alloc: Global, program: Program) -> Result<Checked, CheckError>
     })
 }
 
+#[tactic(auto, using(crate::proofs::Programs::not_main))]
 fn judge(alloc: Global, program: &Program) -> Result<Known, CheckError>
     ensures ok { IfOk result (λ known. judged program.now ≡ Some known) }
     ensures faulty { IsErrOf result CheckError.Faulty → judged program.now ≡ None }
 {
-    let class = match main_class(program.classes.as_slice()) {
-        Some(class) => class,
-        None => return Err(CheckError::Faulty),
+    let Some(members) = main_members(program) else {
+        return Err(CheckError::Faulty);
     };
-    let members = class.members.as_slice();
     let fields = declare_fields(alloc, members)?;
     check_methods(alloc, members)?;
     let facts = check_bodies(alloc, fields, members)?;
@@ -47,14 +46,16 @@ fn judge(alloc: Global, program: &Program) -> Result<Known, CheckError>
     Ok(Known { facts, entries })
 }
 
-// The one class, where it is Main.
-fn main_class(classes: &[Class]) -> Option<&Class>
-    ensures main { IfSome result (λ class. is_one_main classes.now ≡ true) }
-    ensures members { IfSome result (λ class. members_in classes.now ≡ class.now.members) }
-    ensures none { IfNone result (is_one_main classes.now ≡ false) }
+// The members of the one class, where it is Main.
+fn main_members(program: &Program) -> Option<&[Member]>
+    ensures main { IfSome result (λ members. is_main program.now.classes ≡ true) }
+    ensures members { IfSome result (λ members. members_in program.now.classes ≡ members.now) }
+    ensures none { IfNone result (is_main program.now.classes ≡ false) }
 {
-    match classes {
-        [class] if class.name.bytes.as_slice() == "Main".as_bytes() => Some(class),
+    match program.classes.as_slice() {
+        [class] if class.name.bytes.as_slice() == "Main".as_bytes() => {
+            Some(class.members.as_slice())
+        }
         _ => None,
     }
 }

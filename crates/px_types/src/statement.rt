@@ -110,12 +110,7 @@ impl Scope {
         Ok(())
     }
 
-    fn assign(
-        &self,
-        facts: &mut Items<Fact>,
-        place: &Expr,
-        value: &Expr,
-    ) -> Result<(), CheckError>
+    fn assign(&self, facts: &mut Items<Fact>, place: &Expr, value: &Expr) -> Result<(), CheckError>
         ensures keeps { OnOk result ((judged_assign place.now value.now self.now).keeps ≡ true) }
         ensures facts { OnOk result (facts.new ≡ facts.old ++ (judged_assign place.now value.now self.now).facts) }
         ensures faulty { IsErrOf result CheckError.Faulty → (judged_assign place.now value.now self.now).keeps ≡ false }

@@ -1,4 +1,4 @@
-use Rattle.std.proofs.Common.{ap, sym, ◌∙◌, not, List, ℕ}
+use Rattle.std.proofs.Common.{ap, sym, ◌∙◌, not}
 use Rattle.std.specs.Str.{bytes_eq}
 use Rattle.px_types.specs.Names.{is_new}
 use Rattle.px_types.proofs.Mapped.{list_any_map}

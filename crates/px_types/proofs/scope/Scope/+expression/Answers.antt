@@ -1,4 +1,4 @@
-use Rattle.std.proofs.Common.{◌≡◌, List, ◌++◌, ◌∷◌, Bool, false, Option, Some, None, Err, refl, ap, sym, ◌∙◌, append-nil, append_assoc, slice_set}
+use Rattle.std.proofs.Common.{◌≡◌, List, ◌++◌, ◌∷◌, false, Option, Some, Err, refl, ap, sym, ◌∙◌, append-nil, append_assoc, slice_set}
 use Rattle.px_value.specs.declared.ty.Ty.{Ty}
 use Rattle.px_types.specs.declared.checked.Fact.{Fact}
 use Rattle.px_types.specs.Names.{place_of}

@@ -1,7 +1,7 @@
 use Rattle.std.proofs.Common.{◌≡◌, true, List, ◌++◌, map, drop}
 use Rattle.std.specs.Prelude.{fold}
 use Rattle.px_types.specs.declared.checked.Fact.{Fact}
-use Rattle.px_types.specs.Statements.{Judged, followed_by, opened, judged_stmt}
+use Rattle.px_types.specs.Statements.{followed_by, opened, judged_stmt}
 use Rattle.px_types.proofs.scope.Scope.+statement.Given as goal
 
 -- the whole block is what came so far, and the statements that are left
