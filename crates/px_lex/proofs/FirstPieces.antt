@@ -1,11 +1,11 @@
 -- The longest match.
-use Rattle.std.proofs.Common.{◌≡◌, ℕ, ◌+◌, ◌<◌, ◌≤◌, ◌⊎◌, inl, inr, List, [], ◌∷◌, ◌++◌, length, take, drop, refl, sym, ap, subst, ◌∙◌, arith, length-append}
+use Rattle.std.proofs.Common.{◌≡◌, ℕ, ◌<◌, ◌≤◌, inl, inr, List, [], ◌∷◌, length, take, sym, ap, subst, arith, length-append}
 use Rattle.std.proofs.lemmas.Grind.{common_steps}
 use Rattle.px_lex.specs.declared.token.TokenKind.TheVariants.{Id, Key, Number, Str, Sign, Bad, End}
 use Rattle.px_lex.specs.declared.piece.Piece.{Piece}
 use Rattle.px_lex.specs.declared.piece.Piece.TheVariants.{Between, Token}
 use Rattle.px_lex.specs.Pieces.{piece_of, size_of}
-use Rattle.px_lex.specs.Lexical.{IsSeparator, blank, line, block, IsDecimal, IsNumber, IsSpelled, IsLongest, IsFirstPiece}
+use Rattle.px_lex.specs.Lexical.{IsSeparator, blank, line, block, IsNumber, IsSpelled, IsLongest, IsFirstPiece}
 use Rattle.px_lex.proofs.Sizes.{piece_within}
 use Rattle.px_lex.proofs.Longest.{Reaches, reaches}
 use Rattle.px_lex.proofs.Spelled.{SpelledAs, spelled}

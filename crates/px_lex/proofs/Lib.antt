@@ -8,3 +8,4 @@ pub mod Scans
 pub mod Longest
 pub mod Spelled
 pub mod FirstPieces
+pub mod OneCut

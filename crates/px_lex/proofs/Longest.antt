@@ -1,5 +1,5 @@
 -- The first piece of a text reaches as far as each separator or token that the text begins with.
-use Rattle.std.proofs.Common.{◌≡◌, ℕ, zero, suc, ◌+◌, ◌<◌, ◌≤◌, Bool, true, false, cond, ◌==◌, ◌&&◌, ◌||◌, ◌⊎◌, inl, inr, List, [], ◌∷◌, ◌++◌, length, take, drop, slice_index, Option, Some, None, refl, sym, ap, subst, ◌∙◌, arith, append_assoc, length-append}
+use Rattle.std.proofs.Common.{◌≡◌, ℕ, zero, suc, ◌+◌, ◌<◌, Bool, true, false, cond, ◌==◌, ◌&&◌, ◌||◌, ◌⊎◌, inl, inr, List, [], ◌∷◌, ◌++◌, length, take, slice_index, Option, Some, None, refl, sym, ap, subst, ◌∙◌, arith, append_assoc, length-append}
 use Rattle.std.specs.List.{list_all, list_any, AllByRecursion}
 use Rattle.std.specs.Str.{bytes_eq}
 use Rattle.std.proofs.lemmas.Bool.{eqb-true}
@@ -13,8 +13,8 @@ use Rattle.px_lex.specs.declared.piece.Piece.{Piece}
 use Rattle.px_lex.specs.declared.piece.Piece.TheVariants.{Between, Token}
 use Rattle.px_lex.specs.Scanning.{scan_of, is_letter, is_digit}
 use Rattle.px_lex.specs.Keywords.{is_reserved}
-use Rattle.px_lex.specs.Pieces.{piece_of, size_of, is_blank, worded_of, word_kind, number_of, sized_of, closing_of, skipped_of, sign_of}
-use Rattle.px_lex.specs.Lexical.{is_word_byte, IsWord, IsDecimal, is_long_mark, IsNumber, IsText, signs, is_sign, IsToken, IsSeparator, blank, line, block, IsSpelled}
+use Rattle.px_lex.specs.Pieces.{piece_of, size_of, is_blank, worded_of, word_kind, sized_of, closing_of, skipped_of, sign_of}
+use Rattle.px_lex.specs.Lexical.{is_word_byte, IsDecimal, is_long_mark, IsNumber, IsText, signs, is_sign, IsSeparator, blank, line, block, IsSpelled}
 use Rattle.px_lex.proofs.Scans.{when, unless, word_more, digits_more, mark_ends, text_ends, line_ends, block_ends}
 
 -- the piece is that one, or has more bytes

@@ -1,12 +1,12 @@
 -- What a scan of a text that begins so answers.
-use Rattle.std.proofs.Common.{◌≡◌, ℕ, suc, ◌+◌, ◌<◌, ◌≤◌, Bool, true, false, cond, not, ◌==◌, ◌&&◌, ◌||◌, ◌⊎◌, inl, inr, List, [], ◌∷◌, ◌++◌, length, take, drop, Option, Some, None, refl, sym, ap, subst, ◌∙◌, arith}
+use Rattle.std.proofs.Common.{◌≡◌, ℕ, suc, ◌+◌, Bool, true, false, cond, not, ◌==◌, ◌&&◌, ◌||◌, ◌⊎◌, inl, inr, List, [], ◌∷◌, ◌++◌, length, take, drop, Option, Some, None, refl, sym, ap, subst, ◌∙◌, arith}
 use Rattle.std.specs.List.{list_all}
 use Rattle.std.proofs.lemmas.Bool.{eqb-true}
 use Rattle.px_lex.specs.declared.scan.Scan.{Scan}
 use Rattle.px_lex.specs.declared.scan.Scan.TheVariants as s
 use Rattle.px_lex.specs.declared.scan.Next.{Next}
 use Rattle.px_lex.specs.declared.scan.Next.TheVariants.{On, Last, Before, Never}
-use Rattle.px_lex.specs.Scanning.{scan_of, next_of, on_next, shifted, is_letter, is_digit, is_legal}
+use Rattle.px_lex.specs.Scanning.{scan_of, next_of, on_next, shifted, is_digit, is_legal}
 use Rattle.px_lex.specs.Lexical.{is_word_byte, is_long_mark, is_plain, is_escape, IsTextBody, nothing, plain, escape, is_line_byte, EndsLine, begins_with_slash, holds_close}
 
 pub when : {A : Type 0} (t : Bool) (x y : A) → t ≡ true → cond t x y ≡ x

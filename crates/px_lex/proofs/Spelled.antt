@@ -1,16 +1,14 @@
 -- The first piece of a text is spelled as its kind says.
-use Rattle.std.proofs.Common.{◌≡◌, ℕ, zero, suc, ◌+◌, ◌<◌, ◌≤◌, Bool, true, false, cond, ◌==◌, ◌&&◌, ◌||◌, ◌⊎◌, inl, inr, List, [], ◌∷◌, ◌++◌, length, take, drop, slice_index, Option, Some, None, refl, sym, ap, subst, ◌∙◌, arith, add-one}
-use Rattle.std.specs.List.{list_all}
+use Rattle.std.proofs.Common.{◌≡◌, ℕ, suc, ◌+◌, ◌<◌, Bool, true, false, cond, ◌==◌, ◌&&◌, ◌||◌, inl, inr, List, [], ◌∷◌, take, drop, slice_index, Option, Some, None, refl, sym, ap, subst, ◌∙◌, arith, add-one}
 use Rattle.std.proofs.lemmas.Bool.{eqb-true}
 use Rattle.px_lex.specs.declared.scan.Scan.TheVariants as s
-use Rattle.px_lex.specs.declared.token.TokenKind.{TokenKind}
-use Rattle.px_lex.specs.declared.token.TokenKind.TheVariants.{Id, Key, Number, Str, Sign, Bad, End}
+use Rattle.px_lex.specs.declared.token.TokenKind.TheVariants.{Id, Key, Number, Str, Bad}
 use Rattle.px_lex.specs.declared.piece.Piece.{Piece}
 use Rattle.px_lex.specs.declared.piece.Piece.TheVariants.{Between, Token}
 use Rattle.px_lex.specs.Scanning.{scan_of, is_letter, is_digit}
 use Rattle.px_lex.specs.Keywords.{is_reserved}
-use Rattle.px_lex.specs.Pieces.{piece_of, size_of, is_blank, worded_of, word_kind, number_of, zero_of, sized_of, closing_of, skipped_of, sign_len, sign_of, signed_of, may_double, may_assign, stands_alone}
-use Rattle.px_lex.specs.Lexical.{is_word_byte, IsWord, IsDecimal, is_long_mark, IsNumber, IsText, is_sign, IsToken, IsSeparator, blank, line, block, EndsLine}
+use Rattle.px_lex.specs.Pieces.{piece_of, is_blank, worded_of, zero_of, sized_of, closing_of, skipped_of, sign_of, signed_of, may_double, may_assign, stands_alone}
+use Rattle.px_lex.specs.Lexical.{IsWord, is_long_mark, IsNumber, is_sign, IsToken, IsSeparator, blank, line, block, EndsLine}
 use Rattle.px_lex.proofs.Scans.{when, word_goes, digits_go, IsDigits, EndsText, text_is, EndsComment, line_found, EndsBlock, block_found}
 
 -- what the front of a text is that a piece takes

@@ -8,6 +8,8 @@ use Rattle.px_lex.specs.declared.piece.Piece.{Piece}
 use Rattle.px_lex.specs.declared.piece.Piece.TheVariants.{Between, Token}
 use Rattle.px_lex.specs.Keywords.{is_reserved}
 use Rattle.px_lex.specs.Pieces.{is_blank, size_of}
+use Rattle.px_lex.specs.declared.token.Token.{Token as TokenData}
+use Rattle.px_lex.specs.Cutting.{token_of, shown, lines_in}
 use Rattle.px_lex.specs.Scanning.{is_letter, is_digit, is_legal}
 
 abbrev pub is_word_byte : ℕ → Bool
@@ -105,3 +107,11 @@ IsLongest p bs = (q : Piece) (front rest : List ℕ) → bs ≡ front ++ rest �
 abbrev pub IsFirstPiece : Piece → List ℕ → Type 0
 IsFirstPiece (Token Bad n) bs = (n ≡ 1) × NoPiece bs
 IsFirstPiece p bs = IsSpelled p (take (size_of p) bs) (drop (size_of p) bs) × IsLongest p bs
+
+-- The tokens of what is left of a text, from a place and a line on: the text is cut into first pieces, which are shown
+-- unless they are separators, and then comes its end.
+pub data IsCut : ℕ → ℕ → List ℕ → List TokenData → Type 0 where
+  ended : (from line : ℕ) → IsCut from line [] (token_of End from from line ∷ [])
+  piece : (p : Piece) (from line : ℕ) (bs : List ℕ) (tokens : List TokenData) → 0 < length bs → IsFirstPiece p bs
+      → IsCut (from + size_of p) (line + lines_in (take (size_of p) bs)) (drop (size_of p) bs) tokens
+      → IsCut from line bs (shown p from line ++ tokens)

@@ -1,5 +1,5 @@
 -- The first piece of a text: a separator, a token, or one bad byte.
-use Rattle.std.specs.Prelude.{ℕ, zero, suc, ◌+◌, ◌==◌, Bool, cond, ◌&&◌, ◌||◌, List, [], ◌∷◌, take, drop, slice_index, Option, Some, None}
+use Rattle.std.specs.Prelude.{ℕ, zero, suc, ◌+◌, ◌==◌, Bool, cond, ◌&&◌, ◌||◌, List, take, drop, slice_index, Option, Some, None}
 use Rattle.px_lex.specs.declared.scan.Scan.TheVariants as s
 use Rattle.px_lex.specs.declared.token.TokenKind.{TokenKind}
 use Rattle.px_lex.specs.declared.token.TokenKind.TheVariants.{Id, Key, Number, Str, Sign, Bad}
