@@ -3,10 +3,8 @@ use Rattle.std.proofs.Common.{◌≡◌, ℕ, zero, suc, ◌+◌, ◌-◌, ◌<�
 use Rattle.std.proofs.Math.ListN.{set}
 use Rattle.std.proofs.lemmas.List.{take_rest, drop-set}
 use Rattle.std.proofs.lemmas.Grind.{common_steps}
-use Rattle.px_lex.specs.declared.scan.Scan.{Scan}
 use Rattle.px_lex.specs.declared.scan.Scan.TheVariants as s
 use Rattle.px_lex.specs.declared.scan.Next.{Next}
-use Rattle.px_lex.specs.declared.scan.Next.TheVariants.{On, Last, Before, Never}
 use Rattle.px_lex.specs.declared.ahead.Ahead.{Ahead}
 use Rattle.px_lex.specs.Scanning.{scan_of, next_of, on_next, Within, is_legal}
 use Rattle.px_lex.specs.Pieces.{closing_of}

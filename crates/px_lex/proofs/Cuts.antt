@@ -9,7 +9,7 @@ use Rattle.px_lex.specs.declared.token.Token.{Token as TokenData}
 use Rattle.px_lex.specs.Pieces.{piece_of, size_of}
 use Rattle.px_lex.specs.Cutting.{cut, shown, lines_in, token_of}
 
-cut_more : (n from line : ℕ) (bs : List ℕ) → 0 < length bs → cut (suc n) from line bs ≡ shown (piece_of bs) from line ++ cut n (from + size_of (piece_of bs)) (line + lines_in (take (size_of (piece_of bs)) bs)) (drop (size_of (piece_of bs)) bs)
+pub cut_more : (n from line : ℕ) (bs : List ℕ) → 0 < length bs → cut (suc n) from line bs ≡ shown (piece_of bs) from line ++ cut n (from + size_of (piece_of bs)) (line + lines_in (take (size_of (piece_of bs)) bs)) (drop (size_of (piece_of bs)) bs)
 unfolding cut
 cut_more n from line [] h = absurd (omega arith)
 cut_more n from line (b ∷ bs) h = refl

@@ -4,3 +4,8 @@ pub mod Cuts
 pub mod Lexing
 pub mod Closings
 pub mod Forms
+pub mod Scans
+pub mod Longest
+pub mod Spelled
+pub mod FirstPieces
+pub mod OneCut

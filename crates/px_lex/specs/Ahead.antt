@@ -1,5 +1,5 @@
 -- The scans that may fail, answered for every place of a text.
-use Rattle.std.specs.Prelude.{ℕ, ◌^◌, List, [], ◌∷◌, Option, Some, None}
+use Rattle.std.specs.Prelude.{ℕ, ◌^◌, List, [], ◌∷◌, Option, None}
 use Rattle.px_lex.specs.declared.scan.Scan.{Scan}
 use Rattle.px_lex.specs.declared.scan.Scan.TheVariants as s
 use Rattle.px_lex.specs.declared.ahead.Ahead.{Ahead}

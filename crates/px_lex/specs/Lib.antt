@@ -5,3 +5,4 @@ pub mod Ahead
 pub mod Cutting
 pub mod Lexemes
 pub mod Unbuilt
+pub mod Lexical

@@ -1,5 +1,5 @@
 -- The first piece of a text: a separator, a token, or one bad byte.
-use Rattle.std.specs.Prelude.{ℕ, zero, suc, ◌+◌, ◌==◌, Bool, cond, ◌&&◌, ◌||◌, List, [], ◌∷◌, take, drop, slice_index, Option, Some, None}
+use Rattle.std.specs.Prelude.{ℕ, zero, suc, ◌+◌, ◌==◌, Bool, cond, ◌&&◌, ◌||◌, List, take, drop, slice_index, Option, Some, None}
 use Rattle.px_lex.specs.declared.scan.Scan.TheVariants as s
 use Rattle.px_lex.specs.declared.token.TokenKind.{TokenKind}
 use Rattle.px_lex.specs.declared.token.TokenKind.TheVariants.{Id, Key, Number, Str, Sign, Bad}
@@ -8,6 +8,7 @@ use Rattle.px_lex.specs.declared.piece.Piece.TheVariants.{Between, Token}
 use Rattle.px_lex.specs.Keywords.{is_reserved}
 use Rattle.px_lex.specs.Scanning.{scan_of, is_letter, is_digit}
 
+-- space, tab, CR, LF
 abbrev pub is_blank : ℕ → Bool
 is_blank b = (b == 32) || (b == 9) || (b == 13) || (b == 10)
 
@@ -15,17 +16,19 @@ abbrev pub size_of : Piece → ℕ
 size_of (Between n) = n
 size_of (Token k n) = n
 
--- a sign that may be doubled or have a `=` behind it, one that may only have a `=`, and one that stands alone
+-- the signs that may be doubled or have a `=` behind them: + - & |
 abbrev pub may_double : ℕ → Bool
 may_double b = (b == 43) || (b == 45) || (b == 38) || (b == 124)
 
+-- those that may only have a `=` behind them: * / % ^ = !
 abbrev pub may_assign : ℕ → Bool
 may_assign b = (b == 42) || (b == 47) || (b == 37) || (b == 94) || (b == 61) || (b == 33)
 
+-- those that stand alone: { } ( ) [ ] , ; . ~
 abbrev pub stands_alone : ℕ → Bool
 stands_alone b = (b == 123) || (b == 125) || (b == 40) || (b == 41) || (b == 91) || (b == 93) || (b == 44) || (b == 59) || (b == 46) || (b == 126)
 
--- how many bytes the longest sign has that begins with these four, 0 for none
+-- how many bytes the longest sign has that begins with these four, 0 for none; 62, 60 and 61 are > < =
 abbrev pub sign_len : ℕ → ℕ → ℕ → ℕ → ℕ
 sign_len b c d e =
     cond (b == 62) (cond ((c == 62) && (d == 62) && (e == 61)) 4 (cond ((c == 62) && ((d == 62) || (d == 61))) 3 (cond ((c == 62) || (c == 61)) 2 1)))
@@ -41,6 +44,7 @@ sign_of (suc n) = Token Sign (suc n)
 abbrev pub signed_of : List ℕ → Piece
 signed_of bs = sign_of (sign_len (slice_index bs 0) (slice_index bs 1) (slice_index bs 2) (slice_index bs 3))
 
+-- a word is a keyword or an identifier
 abbrev pub word_kind : List ℕ → TokenKind
 word_kind word = cond (is_reserved word) Key Id
 
@@ -60,7 +64,7 @@ zero_of c = cond ((c == 76) || (c == 108)) (Token Number 2) (Token Number 1)
 abbrev pub number_of : List ℕ → Piece
 number_of bs = cond (slice_index bs 0 == 48) (zero_of (slice_index bs 1)) (sized_of Number (scan_of s.Digits (drop 1 bs)))
 
--- where a string literal or a comment begins: how far it goes behind its opening bytes, if it ends well
+-- where a string literal or a comment begins, by `"`, `//` or `/*`: how far it goes behind these, if it ends well
 abbrev pub closing_of : List ℕ → Option ℕ
 closing_of bs =
     cond (slice_index bs 0 == 34) (scan_of s.Text (drop 1 bs))

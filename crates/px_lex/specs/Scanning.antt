@@ -5,16 +5,18 @@ use Rattle.px_lex.specs.declared.scan.Scan.TheVariants.{Word, Digits, Line, Bloc
 use Rattle.px_lex.specs.declared.scan.Next.{Next}
 use Rattle.px_lex.specs.declared.scan.Next.TheVariants.{On, Last, Before, Never}
 
+-- a letter, `_` or `$`
 abbrev pub is_letter : ℕ → Bool
 is_letter b = (nat_le 65 b && nat_le b 90) || (nat_le 97 b && nat_le b 122) || (b == 95) || (b == 36)
 
 abbrev pub is_digit : ℕ → Bool
 is_digit b = nat_le 48 b && nat_le b 57
 
--- the bytes of a program text
+-- the bytes of a program text: from space to `~`, tab, CR and LF
 abbrev pub is_legal : ℕ → Bool
 is_legal b = (nat_le 32 b && nat_le b 126) || (b == 9) || (b == 13) || (b == 10)
 
+-- what one byte does to a scan: a `"` is 34, a `*` 42, a `/` 47, a backslash 92
 abbrev pub next_of : Scan → ℕ → Next
 next_of Word b = cond (is_letter b || is_digit b) (On Word) Before
 next_of Digits b = cond (is_digit b) (On Digits) (cond ((b == 76) || (b == 108)) Last Before)
@@ -24,6 +26,7 @@ next_of Star b = cond (b == 47) Last (cond (b == 42) (On Star) (cond (is_legal b
 next_of Text b = cond (b == 34) Last (cond (b == 92) (On Escape) (cond (b == 10) Never (cond (is_legal b) (On Text) Never)))
 next_of Escape b = cond ((b == 110) || (b == 116) || (b == 34) || (b == 92)) (On Text) Never
 
+-- a word, a number and a `//` comment may end with the text
 abbrev pub ends_of : Scan → Bool
 ends_of Word = true
 ends_of Digits = true

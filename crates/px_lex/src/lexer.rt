@@ -21,7 +21,7 @@ fn lines(bytes: &[u8]) -> usize
     ensures is { result ≡ lines_in bytes.now }
     ensures few { result ≤ length bytes.now }
 {
-    bytes.iter().filter(|b| **b == 10).count()
+    bytes.iter().filter(|b| **b == b'\n').count()
 }
 
 fn show(tokens: &mut Vec<Token>, piece: Piece, from: usize, line: usize) -> Result<(), AllocError>

@@ -3,6 +3,7 @@
 
 mod ahead;
 mod keyword;
+pub mod law;
 mod lexeme;
 mod lexer;
 mod piece;

@@ -18,62 +18,62 @@ pub enum Piece {
 fn is_blank(byte: u8) -> bool
     ensures { result ≡ is_blank byte }
 {
-    byte == 32 || byte == 9 || byte == 13 || byte == 10
+    byte == b' ' || byte == b'\t' || byte == b'\r' || byte == b'\n'
 }
 
 fn may_double(b: u8) -> bool
     ensures { result ≡ may_double b }
 {
-    b == 43 || b == 45 || b == 38 || b == 124
+    b == b'+' || b == b'-' || b == b'&' || b == b'|'
 }
 
 fn may_assign(b: u8) -> bool
     ensures { result ≡ may_assign b }
 {
-    b == 42 || b == 47 || b == 37 || b == 94 || b == 61 || b == 33
+    b == b'*' || b == b'/' || b == b'%' || b == b'^' || b == b'=' || b == b'!'
 }
 
 fn stands_alone(b: u8) -> bool
     ensures { result ≡ stands_alone b }
 {
-    b == 123
-        || b == 125
-        || b == 40
-        || b == 41
-        || b == 91
-        || b == 93
-        || b == 44
-        || b == 59
-        || b == 46
-        || b == 126
+    b == b'{'
+        || b == b'}'
+        || b == b'('
+        || b == b')'
+        || b == b'['
+        || b == b']'
+        || b == b','
+        || b == b';'
+        || b == b'.'
+        || b == b'~'
 }
 
 // How many bytes the longest sign has that begins so, 0 for none.
 fn sign_len(b: u8, c: u8, d: u8, e: u8) -> usize
     ensures { result ≡ sign_len b c d e }
 {
-    if b == 62 {
-        if c == 62 && d == 62 && e == 61 {
+    if b == b'>' {
+        if c == b'>' && d == b'>' && e == b'=' {
             4
-        } else if c == 62 && (d == 62 || d == 61) {
+        } else if c == b'>' && (d == b'>' || d == b'=') {
             3
-        } else if c == 62 || c == 61 {
+        } else if c == b'>' || c == b'=' {
             2
         } else {
             1
         }
-    } else if b == 60 {
-        if c == 60 && d == 61 {
+    } else if b == b'<' {
+        if c == b'<' && d == b'=' {
             3
-        } else if c == 60 || c == 61 {
+        } else if c == b'<' || c == b'=' {
             2
         } else {
             1
         }
     } else if may_double(b) {
-        if c == b || c == 61 { 2 } else { 1 }
+        if c == b || c == b'=' { 2 } else { 1 }
     } else if may_assign(b) {
-        if c == 61 { 2 } else { 1 }
+        if c == b'=' { 2 } else { 1 }
     } else if stands_alone(b) {
         1
     } else {
@@ -112,9 +112,9 @@ fn number(bytes: &[u8]) -> Piece
     requires { 0 < length bytes.now }
     ensures { result ≡ number_of bytes.now }
 {
-    if bytes[0] == 48 {
+    if bytes[0] == b'0' {
         let more = peek(bytes, 1);
-        if more == 76 || more == 108 {
+        if more == b'L' || more == b'l' {
             Piece::Token(TokenKind::Number, 2)
         } else {
             Piece::Token(TokenKind::Number, 1)
@@ -192,9 +192,9 @@ fn read_piece(bytes: &[u8], closing: Option<u32>) -> Piece
         worded(reach(Scan::Word, &bytes[1..]), bytes)
     } else if is_digit(first) {
         number(bytes)
-    } else if first == 34 {
+    } else if first == b'"' {
         literal(closing)
-    } else if first == 47 {
+    } else if first == b'/' {
         skipped(closing, bytes)
     } else {
         signed(bytes)

@@ -34,19 +34,19 @@ pub fn peek(bytes: &[u8], at: usize) -> u8
 pub fn is_letter(byte: u8) -> bool
     ensures { result ≡ is_letter byte }
 {
-    (byte >= 65 && byte <= 90) || (byte >= 97 && byte <= 122) || byte == 95 || byte == 36
+    (byte >= b'A' && byte <= b'Z') || (byte >= b'a' && byte <= b'z') || byte == b'_' || byte == b'$'
 }
 
 pub fn is_digit(byte: u8) -> bool
     ensures { result ≡ is_digit byte }
 {
-    byte >= 48 && byte <= 57
+    byte >= b'0' && byte <= b'9'
 }
 
 fn is_legal(byte: u8) -> bool
     ensures { result ≡ is_legal byte }
 {
-    (byte >= 32 && byte <= 126) || byte == 9 || byte == 13 || byte == 10
+    (byte >= b' ' && byte <= b'~') || byte == b'\t' || byte == b'\r' || byte == b'\n'
 }
 
 /// What one byte does to a scan.
@@ -64,14 +64,14 @@ pub fn advance(scan: Scan, byte: u8) -> Next
         Scan::Digits => {
             if is_digit(byte) {
                 Next::On(Scan::Digits)
-            } else if byte == 76 || byte == 108 {
+            } else if byte == b'L' || byte == b'l' {
                 Next::Last
             } else {
                 Next::Before
             }
         }
         Scan::Line => {
-            if byte == 10 {
+            if byte == b'\n' {
                 Next::Before
             } else if is_legal(byte) {
                 Next::On(Scan::Line)
@@ -80,7 +80,7 @@ pub fn advance(scan: Scan, byte: u8) -> Next
             }
         }
         Scan::Block => {
-            if byte == 42 {
+            if byte == b'*' {
                 Next::On(Scan::Star)
             } else if is_legal(byte) {
                 Next::On(Scan::Block)
@@ -89,9 +89,9 @@ pub fn advance(scan: Scan, byte: u8) -> Next
             }
         }
         Scan::Star => {
-            if byte == 47 {
+            if byte == b'/' {
                 Next::Last
-            } else if byte == 42 {
+            } else if byte == b'*' {
                 Next::On(Scan::Star)
             } else if is_legal(byte) {
                 Next::On(Scan::Block)
@@ -100,11 +100,11 @@ pub fn advance(scan: Scan, byte: u8) -> Next
             }
         }
         Scan::Text => {
-            if byte == 34 {
+            if byte == b'"' {
                 Next::Last
-            } else if byte == 92 {
+            } else if byte == b'\\' {
                 Next::On(Scan::Escape)
-            } else if byte == 10 {
+            } else if byte == b'\n' {
                 Next::Never
             } else if is_legal(byte) {
                 Next::On(Scan::Text)
@@ -113,7 +113,7 @@ pub fn advance(scan: Scan, byte: u8) -> Next
             }
         }
         Scan::Escape => {
-            if byte == 110 || byte == 116 || byte == 34 || byte == 92 {
+            if byte == b'n' || byte == b't' || byte == b'"' || byte == b'\\' {
                 Next::On(Scan::Text)
             } else {
                 Next::Never

@@ -1,5 +1,5 @@
-use Rattle.std.proofs.Common.{rules, ◌≡◌, ◌-◌, ◌+◌, length, drop, arith, refl, sym, ap, ◌∙◌}
-use Rattle.px_lex.specs.Ahead.{ahead_of, closings_of}
+use Rattle.std.proofs.Common.{rules, ◌≡◌, ◌-◌, ◌+◌, length, arith, sym, ap, ◌∙◌}
+use Rattle.px_lex.specs.Ahead.{ahead_of}
 use Rattle.px_lex.proofs.Closings.{ended, closings_ended, behind_is, beyond_is, small_is, moved_there, extended_there, closings_there}
 use Rattle.px_lex.proofs.ahead.closings.Goals as goal
 

@@ -1,4 +1,4 @@
-use Rattle.std.proofs.Common.{◌≡◌, ◌<◌, ℕ, rules, length, ap, ◌∙◌, arith}
+use Rattle.std.proofs.Common.{◌≡◌, length, ap, ◌∙◌, arith}
 use Rattle.px_lex.specs.Lexemes.{lexemes_of}
 use Rattle.px_lex.proofs.Lexing.{length_lexemes}
 use Rattle.px_lex.proofs.Forms.{line_is}

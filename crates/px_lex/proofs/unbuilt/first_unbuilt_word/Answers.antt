@@ -1,4 +1,4 @@
-use Rattle.std.proofs.Common.{◌≡◌, ◌+◌, length, Bool, true, false, arith}
+use Rattle.std.proofs.Common.{length, arith}
 use Rattle.px_lex.specs.Unbuilt.{is_unbuilt_at, words_in}
 use Rattle.px_lex.proofs.Forms.{word_there, test_is, found, passed, again_more, before_more, length_words}
 use Rattle.px_lex.proofs.unbuilt.first_unbuilt_word.Goals as goal
