@@ -1,0 +1,8 @@
+pub mod Lines
+pub mod Words
+pub mod Reserved
+pub mod Names
+pub mod Texts
+pub mod Arguments
+pub mod Calls
+pub mod Jobs
