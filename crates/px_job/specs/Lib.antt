@@ -4,5 +4,6 @@ pub mod Reserved
 pub mod Names
 pub mod Texts
 pub mod Arguments
+pub mod Places
 pub mod Calls
 pub mod Jobs

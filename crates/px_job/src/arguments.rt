@@ -77,3 +77,83 @@ pub(crate) fn count_values(line: &[u8]) -> Option<usize>
     }
     Some(count)
 }
+
+/// The values that the words stand for, each of its type.
+pub(crate) fn read_arguments(
+    alloc: Global,
+    types: &[Ty],
+    line: &[u8],
+) -> Result<Option<Values>, AllocError>
+    requires { length (words_of line.now) ≡ length types.now }
+    ensures { IfOk result (λ values. values ≡ arguments_of types.now (words_of line.now)) }
+{
+    let mut values = Values::new(alloc);
+    let mut rest = line;
+    for ty in types {
+        let Some((word, more)) = split_word(rest) else {
+            return Ok(None);
+        };
+        let Some(value) = read_argument(alloc, *ty, word)? else {
+            return Ok(None);
+        };
+        values.push(value)?;
+        rest = more;
+    }
+    Ok(Some(values))
+}
+
+// The value of the type that the word stands for.
+fn read_argument(alloc: Global, ty: Ty, word: &[u8]) -> Result<Option<Value>, AllocError>
+    ensures { IfOk result (λ value. value ≡ argument_of ty word.now) }
+{
+    match ty {
+        Ty::Int => Ok(read_int(word)),
+        Ty::Long => Ok(read_long(word)),
+        Ty::Bool => Ok(read_bool(word)),
+        Ty::Text => read_string(alloc, word),
+        Ty::Ref => Ok(None),
+    }
+}
+
+fn read_int(word: &[u8]) -> Option<Value>
+    ensures { result ≡ argument_of Ty.Int word.now }
+{
+    let number = read_i64(word)?;
+    if number < -(1 << 31) || number >= 1 << 31 {
+        return None;
+    }
+    Some(Value::Int(number as i32))
+}
+
+fn read_long(word: &[u8]) -> Option<Value>
+    ensures { result ≡ argument_of Ty.Long word.now }
+{
+    Some(Value::Long(read_i64(word)?))
+}
+
+fn read_bool(word: &[u8]) -> Option<Value>
+    ensures { result ≡ argument_of Ty.Bool word.now }
+{
+    if is_true(word) {
+        Some(Value::Bool(true))
+    } else if is_false(word) {
+        Some(Value::Bool(false))
+    } else {
+        None
+    }
+}
+
+fn read_string(alloc: Global, word: &[u8]) -> Result<Option<Value>, AllocError>
+    ensures { IfOk result (λ value. value ≡ argument_of Ty.Text word.now) }
+{
+    if is_null(word) {
+        return Ok(Some(Value::Null));
+    }
+    match text_len(word) {
+        Some(len) if len <= MAX_TEXT => match read_text(alloc, word)? {
+            Some(text) => Ok(Some(Value::Text(Text::from_vec(text)))),
+            None => Ok(None),
+        },
+        _ => Ok(None),
+    }
+}

@@ -3,6 +3,7 @@
 
 mod arguments;
 mod calls;
+mod entries;
 mod job;
 mod lines;
 mod names;

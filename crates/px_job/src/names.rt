@@ -12,9 +12,7 @@ pub(crate) fn is_name(word: &[u8]) -> bool
 {
     match word {
         [] => false,
-        [byte, rest @ ..] => {
-            is_start(*byte) && all_parts(rest) && !is_reserved(word)
-        }
+        [byte, rest @ ..] => { is_start(*byte) && all_parts(rest) && !is_reserved(word) }
     }
 }
 
