@@ -1,0 +1,4 @@
+pub mod Pieces
+pub mod LinesCut
+pub mod WordsCut
+pub mod PlacesMore

@@ -1,0 +1,9 @@
+pub mod Lines
+pub mod Words
+pub mod Reserved
+pub mod Names
+pub mod Texts
+pub mod Arguments
+pub mod Places
+pub mod Calls
+pub mod Jobs
