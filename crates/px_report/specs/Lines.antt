@@ -1,0 +1,37 @@
+-- The text of a run, line by line.
+use Rattle.std.specs.Prelude.{ℕ, ◌+◌, List, [], ◌∷◌, ◌++◌, map, codes, decimal}
+use Rattle.std.specs.List.{flat_map, join_with_byte}
+use Rattle.px_value.specs.declared.object.Object.{Object}
+use Rattle.px_mean.specs.declared.serial.Session.{Session}
+use Rattle.px_mean.specs.declared.serial.Made.{Made}
+use Rattle.px_report.specs.Words.{value_text, reply_text, kind_name}
+
+-- words with one space between each two, and a line feed
+abbrev pub line : List (List ℕ) → List ℕ
+line words = join_with_byte 32 words ++ 10 ∷ []
+
+-- the texts of things that are numbered from a number on
+abbrev pub numbered : {A : Type 0} → (ℕ → A → List ℕ) → ℕ → List A → List ℕ
+numbered text number [] = []
+numbered text number (x ∷ xs) = text number x ++ numbered text (number + 1) xs
+
+abbrev pub call_line : Made → List ℕ
+call_line made = line (codes "call" ∷ decimal made.session ∷ decimal made.number ∷ reply_text made.reply ∷ [])
+
+-- an object is known by its place in its heap
+abbrev pub object_line : List (List ℕ) → ℕ → Object → List ℕ
+object_line classes place object = line (decimal place ∷ kind_name classes object.header.kind ∷ map value_text object.cells)
+
+-- the objects have places from 0
+abbrev pub heap_text : List (List ℕ) → ℕ → Session → List ℕ
+heap_text classes number session = line (codes "heap" ∷ decimal number ∷ []) ++ numbered (object_line classes) 0 session.heap
+
+-- the calls in order, and the heap of each session; the sessions have numbers from 1
+abbrev pub run_text : List (List ℕ) → List Made → List Session → List ℕ
+run_text classes made sessions =
+    line (codes "calls" ∷ [])
+    ++ flat_map call_line made
+    ++ line (codes "tables" ∷ [])
+    ++ line (codes "heaps" ∷ [])
+    ++ numbered (heap_text classes) 1 sessions
+    ++ line (codes "done" ∷ [])
