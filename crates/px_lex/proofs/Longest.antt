@@ -15,7 +15,7 @@ use Rattle.px_lex.specs.Scanning.{scan_of, is_letter, is_digit}
 use Rattle.px_lex.specs.Keywords.{is_reserved}
 use Rattle.px_lex.specs.Pieces.{piece_of, size_of, is_blank, worded_of, word_kind, sized_of, closing_of, skipped_of, sign_of}
 use Rattle.px_lex.specs.Lexical.{is_word_byte, IsDecimal, is_long_mark, IsNumber, IsText, signs, is_sign, IsSeparator, blank, line, block, IsSpelled}
-use Rattle.px_lex.proofs.Scans.{when, unless, word_more, digits_more, mark_ends, text_ends, line_ends, block_ends}
+use Rattle.px_lex.proofs.Scans.{when, unless, word_more, digits_more, mark_ends, text_ends, line_ends, block_ends, holds_alike}
 
 -- the piece is that one, or has more bytes
 abbrev pub Reaches : Piece → Piece → ℕ → Type 0
@@ -130,7 +130,7 @@ separator_reach front rest n l (line body h k e) =
     ap (λ (us : List ℕ). piece_of (us ++ rest)) e ∙ ap (λ (o : Option ℕ). skipped_of o (47 ∷ 47 ∷ body ++ rest)) (line_ends body rest h k) ∙ ap Between (omega (arith, ap length e))
 separator_reach front rest n l (block body h k e) =
     let f : front ++ rest ≡ 47 ∷ 42 ∷ body ++ 42 ∷ 47 ∷ rest = ap (λ (us : List ℕ). us ++ rest) e ∙ ap (λ (us : List ℕ). 47 ∷ 42 ∷ us) (append_assoc body (42 ∷ 47 ∷ []) rest) in
-    ap piece_of f ∙ ap (λ (o : Option ℕ). skipped_of o (47 ∷ 42 ∷ body ++ 42 ∷ 47 ∷ rest)) (block_ends body rest h k) ∙ ap Between (omega (arith, ap length e, length-append body (42 ∷ 47 ∷ [])))
+    ap piece_of f ∙ ap (λ (o : Option ℕ). skipped_of o (47 ∷ 42 ∷ body ++ 42 ∷ 47 ∷ rest)) (block_ends body rest h (holds_alike body ∙ k)) ∙ ap Between (omega (arith, ap length e, length-append body (42 ∷ 47 ∷ [])))
 
 -- signs
 two_reach : (t : Bool) → Reaches (sign_of (cond t 2 1)) (Token Sign 1) 1

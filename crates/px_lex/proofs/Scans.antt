@@ -271,3 +271,12 @@ blocks_found (b ∷ bs) =
 -- what a scan of a block comment finds
 pub block_found : (bs : List ℕ) → EndsBlock (scan_of s.Block bs) bs
 block_found bs = (blocks_found bs).0
+
+begins_alike : (body : List ℕ) → begins_with_slash (body ++ 42 ∷ []) ≡ begins_with_slash body
+begins_alike [] = refl
+begins_alike (b ∷ body) = refl
+
+-- the `*` of the `*/` that closes a comment closes nothing before
+pub holds_alike : (body : List ℕ) → holds_close (body ++ 42 ∷ []) ≡ holds_close body
+holds_alike [] = refl
+holds_alike (b ∷ body) = rw (begins_alike body, holds_alike body) refl

@@ -9,7 +9,7 @@ use Rattle.px_lex.specs.Scanning.{scan_of, is_letter, is_digit}
 use Rattle.px_lex.specs.Keywords.{is_reserved}
 use Rattle.px_lex.specs.Pieces.{piece_of, is_blank, worded_of, zero_of, sized_of, closing_of, skipped_of, sign_of, signed_of, may_double, may_assign, stands_alone}
 use Rattle.px_lex.specs.Lexical.{IsWord, is_long_mark, IsNumber, is_sign, IsToken, IsSeparator, blank, line, block, EndsLine}
-use Rattle.px_lex.proofs.Scans.{when, word_goes, digits_go, IsDigits, EndsText, text_is, EndsComment, line_found, EndsBlock, block_found}
+use Rattle.px_lex.proofs.Scans.{when, word_goes, digits_go, IsDigits, EndsText, text_is, EndsComment, line_found, EndsBlock, block_found, holds_alike}
 
 -- what the front of a text is that a piece takes
 abbrev pub SpelledAs : Piece → List ℕ → Type 0
@@ -78,7 +78,7 @@ line_spelled b c bs (Some n) e f h sign = line (take n bs) h.0 (subst EndsLine (
 
 block_spelled : (b c : ℕ) (bs : List ℕ) (o : Option ℕ) → b ≡ 47 → c ≡ 42 → EndsBlock o bs → SpelledAs (signed_of (b ∷ c ∷ bs)) (b ∷ c ∷ bs) → SpelledAs (skipped_of o (b ∷ c ∷ bs)) (b ∷ c ∷ bs)
 block_spelled b c bs None e f h sign = sign
-block_spelled b c bs (Some n) e f h sign = block h.0 h.1 h.2 (plus_two n b c bs ∙ ap (λ (x : ℕ). x ∷ c ∷ take n bs) e ∙ ap (λ (x : ℕ). 47 ∷ x ∷ take n bs) f ∙ ap (λ (us : List ℕ). 47 ∷ 42 ∷ us) h.3)
+block_spelled b c bs (Some n) e f h sign = block h.0 h.1 (sym (holds_alike h.0) ∙ h.2) (plus_two n b c bs ∙ ap (λ (x : ℕ). x ∷ c ∷ take n bs) e ∙ ap (λ (x : ℕ). 47 ∷ x ∷ take n bs) f ∙ ap (λ (us : List ℕ). 47 ∷ 42 ∷ us) h.3)
 
 -- signs
 SignAs : ℕ → List ℕ → Type 0

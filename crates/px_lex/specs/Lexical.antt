@@ -84,12 +84,11 @@ abbrev pub holds_close : List ℕ → Bool
 holds_close [] = false
 holds_close (b ∷ bs) = ((b == 42) && begins_with_slash bs) || holds_close bs
 
--- What separates tokens, with what follows it: one blank, a `//` to the end of its line, or a `/*` to the next `*/`.
--- The `*` of that `*/` is no part of a `*/` before it.
+-- what separates tokens, with what follows it: one blank, a `//` to the end of its line, or a `/*` to the next `*/`
 pub data IsSeparator (front rest : List ℕ) : Type 0 where
   blank : (b : ℕ) → is_blank b ≡ true → front ≡ b ∷ [] → IsSeparator front rest
   line : (body : List ℕ) → list_all is_line_byte body ≡ true → EndsLine rest → front ≡ 47 ∷ 47 ∷ body → IsSeparator front rest
-  block : (body : List ℕ) → list_all is_legal body ≡ true → holds_close (body ++ 42 ∷ []) ≡ false → front ≡ 47 ∷ 42 ∷ body ++ 42 ∷ 47 ∷ [] → IsSeparator front rest
+  block : (body : List ℕ) → list_all is_legal body ≡ true → holds_close body ≡ false → front ≡ 47 ∷ 42 ∷ body ++ 42 ∷ 47 ∷ [] → IsSeparator front rest
 
 -- a front of a text is such a piece
 abbrev pub IsSpelled : Piece → List ℕ → List ℕ → Type 0
