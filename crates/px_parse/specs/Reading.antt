@@ -123,7 +123,7 @@ primary_on source inner _ = refuse
 abbrev pub primary : List ℕ → Reads Expr → Reads Expr
 primary source inner = by_word (primary_on source inner)
 
-abbrev pub negation : Reads Expr → Reads Expr
+unfoldable pub negation : Reads Expr → Reads Expr
 negation operand = do
   minus ← take
   spend
@@ -140,7 +140,7 @@ prefixed source zero inner = refuse
 prefixed source (suc n) inner = by_word (prefixed_on source inner (prefixed source n inner))
 
 -- an operator and its right side
-abbrev pub operation : Sign → Reads Expr → Expr → Reads Expr
+unfoldable pub operation : Sign → Reads Expr → Expr → Reads Expr
 operation op right left = do
   sign_word ← take
   spend

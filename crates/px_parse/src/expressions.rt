@@ -139,23 +139,44 @@ impl Source<'_> {
     }
 
     #[cycle(expression)]
+    #[tactic(auto, unfolding(crate::specs::Reading::negation))]
+    fn negation(&self, tokens: &mut Tokens<'_>) -> Result<Expr, ParseError>
+        ensures gives { (n m : ℕ) → tokens.old.room < n → tokens.old.room ≤ m → Gives (spec.negation (prefixed self.now.bytes.now m (expression self.now.bytes.now n)) (state_of tokens.old)) result (state_of tokens.new) }
+        ensures room { OnOk result (tokens.new.room ≤ tokens.old.room) }
+    {
+        let minus = tokens.take()?;
+        tokens.spend()?;
+        let operand = self.prefixed(tokens)?;
+        tokens.room += 1;
+        Ok(self.negated(minus, operand)?)
+    }
+
+    #[cycle(expression)]
     #[tactic(auto, unfolding(crate::specs::Reading::prefixed))]
     fn prefixed(&self, tokens: &mut Tokens<'_>) -> Result<Expr, ParseError>
         ensures gives { (n m : ℕ) → tokens.old.room < n → tokens.old.room < m → Gives (prefixed self.now.bytes.now m (expression self.now.bytes.now n) (state_of tokens.old)) result (state_of tokens.new) }
         ensures room { OnOk result (tokens.new.room ≤ tokens.old.room) }
     {
         match tokens.peek() {
-            Word::Minus => {
-                let minus = tokens.take()?;
-                tokens.spend()?;
-                let operand = self.prefixed(tokens)?;
-                tokens.room += 1;
-                Ok(self.negated(minus, operand)?)
-            }
+            Word::Minus => self.negation(tokens),
             _ => self.primary(tokens),
         }
     }
 
+    // A `*` and its right side.
+    #[cycle(expression)]
+    #[tactic(auto, unfolding(crate::specs::Reading::operation))]
+    fn multiplied(&self, tokens: &mut Tokens<'_>, left: Expr) -> Result<Expr, ParseError>
+        ensures gives { (n m : ℕ) → tokens.old.room < n → tokens.old.room ≤ m → Gives (spec.operation Sign.Times (prefixed self.now.bytes.now m (expression self.now.bytes.now n)) left (state_of tokens.old)) result (state_of tokens.new) }
+        ensures room { OnOk result (tokens.new.room < tokens.old.room) }
+    {
+        let times = tokens.take()?;
+        tokens.spend()?;
+        let right = self.prefixed(tokens)?;
+        Ok(self.binary(Sign::Times, times, left, right)?)
+    }
+
+    // The factors behind the first.
     #[cycle(expression)]
     #[tactic(auto, unfolding(crate::specs::Reading::factors))]
     fn factors(&self, tokens: &mut Tokens<'_>, left: Expr) -> Result<Expr, ParseError>
@@ -164,10 +185,7 @@ impl Source<'_> {
     {
         match tokens.peek() {
             Word::Times => {
-                let times = tokens.take()?;
-                tokens.spend()?;
-                let right = self.prefixed(tokens)?;
-                let both = self.binary(Sign::Times, times, left, right)?;
+                let both = self.multiplied(tokens, left)?;
                 self.factors(tokens, both)
             }
             _ => Ok(left),
@@ -184,22 +202,37 @@ impl Source<'_> {
         self.factors(tokens, left)
     }
 
+    // A `+` or `-` and its right side.
+    #[cycle(expression)]
+    #[tactic(auto, unfolding(crate::specs::Reading::operation))]
+    fn added(&self, tokens: &mut Tokens<'_>, sign: Sign, left: Expr) -> Result<Expr, ParseError>
+        ensures gives { (n m : ℕ) → tokens.old.room < n → tokens.old.room ≤ m → Gives (spec.operation sign (product self.now.bytes.now m (expression self.now.bytes.now n)) left (state_of tokens.old)) result (state_of tokens.new) }
+        ensures room { OnOk result (tokens.new.room < tokens.old.room) }
+    {
+        let at = tokens.take()?;
+        tokens.spend()?;
+        let right = self.product(tokens)?;
+        Ok(self.binary(sign, at, left, right)?)
+    }
+
+    // The terms behind the first.
     #[cycle(expression)]
     #[tactic(auto, unfolding(crate::specs::Reading::terms))]
     fn terms(&self, tokens: &mut Tokens<'_>, left: Expr) -> Result<Expr, ParseError>
         ensures gives { (n m : ℕ) → tokens.old.room < n → tokens.old.room < m → Gives (terms self.now.bytes.now m (expression self.now.bytes.now n) left (state_of tokens.old)) result (state_of tokens.new) }
         ensures room { OnOk result (tokens.new.room ≤ tokens.old.room) }
     {
-        let sign = match tokens.peek() {
-            Word::Plus => Sign::Plus,
-            Word::Minus => Sign::Minus,
-            _ => return Ok(left),
-        };
-        let at = tokens.take()?;
-        tokens.spend()?;
-        let right = self.product(tokens)?;
-        let both = self.binary(sign, at, left, right)?;
-        self.terms(tokens, both)
+        match tokens.peek() {
+            Word::Plus => {
+                let both = self.added(tokens, Sign::Plus, left)?;
+                self.terms(tokens, both)
+            }
+            Word::Minus => {
+                let both = self.added(tokens, Sign::Minus, left)?;
+                self.terms(tokens, both)
+            }
+            _ => Ok(left),
+        }
     }
 
     #[cycle(expression)]

@@ -1,5 +1,5 @@
 //! The lexemes that are left.
-ghost use Rattle.std.specs.Prelude.{◌≡◌, ◌+◌, OnOk};
+ghost use Rattle.std.specs.Prelude.{◌≡◌, ◌+◌, ◌<◌, ◌^◌, OnOk};
 ghost use Rattle.px_parse.specs.Reading as spec;
 ghost use Rattle.px_parse.specs.Reading.{Gives};
 ghost use Rattle.px_parse.specs.View.{state_of};
@@ -59,6 +59,7 @@ impl Tokens<'_> {
     pub fn spend(&mut self) -> Result<(), ParseError>
         ensures gives { Gives (spec.spend (state_of self.old)) result (state_of self.new) }
         ensures room { OnOk result (self.new.room + 1 ≡ self.old.room) }
+        ensures small { OnOk result (self.new.room + 1 < 2 ^ 32) }
     {
         if self.room == 0 {
             return Err(ParseError::Syntax);
