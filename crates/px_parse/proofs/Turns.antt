@@ -1,13 +1,15 @@
 -- One turn of a reading function.
-use Rattle.std.proofs.Common.{◌≡◌, ℕ, zero, suc, ◌<◌, ◌≤◌, List, Option, Some, Result, Ok, Err, refl, sym, ap, ◌∙◌, subst, arith}
+use Rattle.std.proofs.Common.{◌≡◌, ℕ, zero, suc, ◌<◌, ◌≤◌, Bool, true, false, if◌then◌else◌, List, [], ◌∷◌, ◌++◌, Option, Some, Result, Ok, Err, OnOk, refl, sym, ap, ◌∙◌, subst, arith}
+use Rattle.std.specs.Result.{IsErrAnd}
 use Rattle.px_lex.specs.declared.lexeme.Word.{Word}
 use Rattle.px_lex.specs.declared.lexeme.Word.TheVariants as w
 use Rattle.px_lex.specs.declared.tree.Expr.{Expr}
 use Rattle.px_lex.specs.declared.tree.Sign.{Sign}
 use Rattle.px_lex.specs.declared.tree.Sign.TheVariants as sign
 use Rattle.px_parse.specs.declared.error.ParseError.{ParseError}
+use Rattle.px_parse.specs.declared.error.ParseError.TheVariants.{Syntax, NoMemory}
 use Rattle.px_parse.specs.Grammar.{IsSumSign, plus, minus}
-use Rattle.px_parse.specs.Reading.{State, Read, Reads, and_then, ◌>>=◌, next_word, Gives, prefixed_on, prefixed, primary, negation, operation, factors_on, factors, product, terms_on, terms}
+use Rattle.px_parse.specs.Reading.{State, Read, Reads, and_then, ◌>>=◌, next_word, Gives, Fails, repeated, prefixed_on, prefixed, primary, negation, operation, factors_on, factors, product, terms_on, terms}
 
 -- the same read, in other words
 pub gives_as : {A : Type 0} (read same : Read A) (result : Result A ParseError) (now : State) → read ≡ same → Gives same result now → Gives read result now
@@ -48,3 +50,37 @@ terms_turn source zero inner left both s s' result now x op h e i d o g = absurd
 terms_turn source (suc m) inner left both s s' result now x op h e i d o g =
     gives_as _ _ result now (ap (λ y. terms_on source (product source m inner) (terms source m inner) left y s) e ∙ ap (λ (p : Reads Expr). p s) (terms_step source (product source m inner) (terms source m inner) left x op i))
     (after_operation (operation op (product source m inner) left) (terms source m inner) s s' both result now (o m (omega arith)) (g m (omega arith)))
+
+-- ---- lists
+
+pub repeated_ends : {A : Type 0} (goes_on : Word → Bool) (one : Reads A) (m : ℕ) (found : List A) (s : State) → goes_on (next_word s.1) ≡ false → repeated goes_on one m found s ≡ Some (found, s)
+unfolding repeated
+repeated_ends goes_on one zero found s h = refl
+repeated_ends goes_on one (suc m) found s h = ap (λ b. if b then (one >>= (λ x. repeated goes_on one m (found ++ x ∷ []))) s else Some (found, s)) h
+
+pub repeated_done : {A : Type 0} (goes_on : Word → Bool) (one : Reads A) (m : ℕ) (found : List A) (s : State) → m ≡ 0 → repeated goes_on one m found s ≡ Some (found, s)
+unfolding repeated
+repeated_done goes_on one zero found s h = refl
+repeated_done goes_on one (suc m) found s h = absurd (omega arith)
+
+pub repeated_step : {A : Type 0} (goes_on : Word → Bool) (one : Reads A) (m k : ℕ) (found : List A) (s : State) → goes_on (next_word s.1) ≡ true → m ≡ suc k → repeated goes_on one m found s ≡ and_then (one s) (λ x. repeated goes_on one k (found ++ x ∷ []))
+unfolding repeated
+repeated_step goes_on one m k found s h e =
+    ap (λ n. repeated goes_on one n found s) e ∙ ap (λ b. if b then (one >>= (λ x. repeated goes_on one k (found ++ x ∷ []))) s else Some (found, s)) h
+
+pub repeated_turn : {A : Type 0} (goes_on : Word → Bool) (one : Reads A) (m k : ℕ) (found more : List A) (x : A) (s s' : State) → goes_on (next_word s.1) ≡ true → m ≡ suc k → one s ≡ Some (x, s') → more ≡ found ++ x ∷ [] → repeated goes_on one m found s ≡ repeated goes_on one k more s'
+repeated_turn goes_on one m k found more x s s' h e o p =
+    repeated_step goes_on one m k found s h e ∙ ap (λ (r : Read _). and_then r (λ x. repeated goes_on one k (found ++ x ∷ []))) o ∙ ap (λ (xs : List _). repeated goes_on one k xs s') (sym p)
+
+fails_then : {A B : Type 0} (e : ParseError) (read : Read A) (f : A → Reads B) → Fails e read → Fails e (and_then read f)
+fails_then NoMemory read f h = tt
+fails_then Syntax read f h = ap (λ (r : Read _). and_then r f) h
+
+-- the exit of a `?`
+pub exits : {A B : Type 0} (e : ParseError) (read : Read A) (f : A → Reads B) (whole : Read B) (result : Result B ParseError) (now : State) → IsErrAnd result (λ y. y ≡ e) → Fails e read → whole ≡ and_then read f → Gives whole result now
+exits e read f whole (Ok x) now i h k = absurd i
+exits e read f whole (Err y) now i h k = subst (λ (z : ParseError). Fails z whole) (sym i) (subst (λ (r : Option (_ × State)). Fails e r) (sym k) (fails_then e read f h))
+
+pub on_exit : {B : Type 0} (e : ParseError) (result : Result B ParseError) (P : Type 0) → IsErrAnd result (λ y. y ≡ e) → OnOk result P
+on_exit e (Ok x) P i = absurd i
+on_exit e (Err y) P i = tt

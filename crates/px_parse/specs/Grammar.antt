@@ -89,9 +89,9 @@ pub data SpellsThrows (source : List ℕ) : List Lexeme → Type 0 where
 pub data SpellsMember (source : List ℕ) : Member → List Lexeme → Type 0 where
   field : (access : Access) (long name semicolon : Lexeme) (ms : List Lexeme) → long.word ≡ w.Long → name.word ≡ w.Name → semicolon.word ≡ w.Semicolon → SpellsAccess access ms → SpellsMember source (field_declaration_of source access (type_of long) name) (ms ++ long ∷ name ∷ semicolon ∷ [])
   method : (access : Access) (gives : Option TypeName) (params : List Param) (items : List Stmt) (ms ps ts xs : List Lexeme) (result name opening closing begin finish : Lexeme)
-    → name.word ≡ w.Name → opening.word ≡ w.Open → closing.word ≡ w.Close → begin.word ≡ w.OpenBrace → finish.word ≡ w.CloseBrace
-    → SpellsAccess access ms → SpellsResult gives result → SpellsParams source params ps → SpellsThrows source ts → SpellsItems source items xs
-    → SpellsMember source (method_of source (first_token (ms ++ result ∷ [])) access gives name params begin items finish) (ms ++ result ∷ name ∷ opening ∷ ps ++ (closing ∷ ts ++ (begin ∷ xs ++ finish ∷ [])))
+      → name.word ≡ w.Name → opening.word ≡ w.Open → closing.word ≡ w.Close → begin.word ≡ w.OpenBrace → finish.word ≡ w.CloseBrace
+      → SpellsAccess access ms → SpellsResult gives result → SpellsParams source params ps → SpellsThrows source ts → SpellsItems source items xs
+      → SpellsMember source (method_of source (first_token (ms ++ result ∷ [])) access gives name params begin items finish) (ms ++ result ∷ name ∷ opening ∷ ps ++ (closing ∷ ts ++ (begin ∷ xs ++ finish ∷ [])))
 
 pub data SpellsMembers (source : List ℕ) : List Member → List Lexeme → Type 0 where
   no_member : SpellsMembers source [] []

@@ -1,5 +1,5 @@
 -- Reading, as functions on the lexemes that are left.
-use Rattle.std.specs.Prelude.{◌≡◌, ℕ, zero, suc, ◌+◌, Bool, List, [], ◌∷◌, ◌++◌, length, Option, Some, None, Result, Ok, Err, if◌then◌else◌, codes}
+use Rattle.std.specs.Prelude.{◌≡◌, ℕ, zero, suc, ◌+◌, Bool, not, List, [], ◌∷◌, ◌++◌, length, Option, Some, None, Result, Ok, Err, if◌then◌else◌, codes}
 use Rattle.std.specs.Str.{bytes_eq}
 use denote.Enum.Bare.{sameb}
 use Rattle.px_lex.specs.contracts.lexeme.Word.{the_type}
@@ -242,22 +242,19 @@ unfoldable pub item_on : List ℕ → Blocks → Word → Reads Stmt
 item_on source block w.Long = local source
 item_on source block _ = statement source block
 
--- up to a `}`, in at most n turns
-abbrev pub until_brace_on : {A : Type 0} → Reads A → (List A → Reads (List A)) → List A → Word → Reads (List A)
-until_brace_on one more found w.CloseBrace = pure found
-until_brace_on one more found _ = do
-  x ← one
-  more (found ++ x ∷ [])
+-- one after the other while such a word stands next, in at most n turns
+unfoldable pub repeated : {A : Type 0} → (Word → Bool) → Reads A → ℕ → List A → Reads (List A)
+repeated goes_on one zero found = pure found
+repeated goes_on one (suc n) found = λ s. if goes_on (next_word s.1) then (one >>= (λ x. repeated goes_on one n (found ++ x ∷ []))) s else Some (found, s)
 
-unfoldable pub until_brace : {A : Type 0} → Reads A → ℕ → List A → Reads (List A)
-until_brace one zero found = pure found
-until_brace one (suc n) found = by_word (until_brace_on one (until_brace one n) found)
+abbrev pub is_no_brace : Word → Bool
+is_no_brace word = not (same_word word w.CloseBrace)
 
 -- each turn takes a lexeme
 abbrev pub all_until_brace : {A : Type 0} → Reads A → Reads (List A)
-all_until_brace one = λ s. until_brace one (length s.1) [] s
+all_until_brace one = λ s. repeated is_no_brace one (length s.1) [] s
 
-abbrev pub braced : Reads Stmt → Blocks
+unfoldable pub braced : Reads Stmt → Blocks
 braced item = do
   opening ← expect w.OpenBrace
   items ← all_until_brace item
@@ -294,21 +291,22 @@ param source = do
   name ← expect w.Name
   pure (param_of source long name)
 
-abbrev pub more_params_on : List ℕ → (List Param → Reads (List Param)) → List Param → Word → Reads (List Param)
-more_params_on source more found w.Comma = do
-  take
-  x ← param source
-  more (found ++ x ∷ [])
-more_params_on source more found _ = pure found
+abbrev pub is_comma : Word → Bool
+is_comma word = same_word word w.Comma
 
-unfoldable pub more_params : List ℕ → ℕ → List Param → Reads (List Param)
-more_params source zero found = pure found
-more_params source (suc n) found = by_word (more_params_on source (more_params source n) found)
+-- a comma and a parameter
+unfoldable pub next_param : List ℕ → Reads Param
+next_param source = do
+  take
+  param source
+
+unfoldable pub some_params : List ℕ → Reads (List Param)
+some_params source = do
+  x ← param source
+  λ s. repeated is_comma (next_param source) (length s.1) (x ∷ []) s
 
 unfoldable pub params_on : List ℕ → Word → Reads (List Param)
-params_on source w.Long = do
-  x ← param source
-  λ s. more_params source (length s.1) (x ∷ []) s
+params_on source w.Long = some_params source
 params_on source _ = pure []
 
 unfoldable pub thrown : List ℕ → Reads (Unit {0})

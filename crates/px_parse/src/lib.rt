@@ -3,7 +3,9 @@
 
 mod error;
 mod expressions;
+mod members;
 mod source;
+mod statements;
 mod tokens;
 
 pub use error::ParseError;

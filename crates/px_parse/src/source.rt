@@ -3,9 +3,8 @@ ghost use Rattle.std.specs.Prelude.{◌≡◌, IfOk};
 ghost use Rattle.px_parse.specs.Spelling.{spelled};
 ghost use Rattle.px_parse.specs.Trees as spec;
 
-use crate::error::ParseError;
 use px_lex::Lexeme;
-use px_lex::tree::{Expr, ExprForm, Name};
+use px_lex::tree::{Base, Expr, ExprForm, Name, TypeName};
 use sqlite_items::Items;
 use std::alloc::{AllocError, Global};
 
@@ -37,6 +36,15 @@ fn digits(spelling: &[u8]) -> &[u8]
         &spelling[..spelling.len() - 1]
     } else {
         spelling
+    }
+}
+
+pub fn long_type(x: Lexeme) -> TypeName
+    ensures { result ≡ spec.type_of x }
+{
+    TypeName {
+        base: Base::Long,
+        token: x.token,
     }
 }
 

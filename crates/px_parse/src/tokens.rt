@@ -2,6 +2,7 @@
 ghost use Rattle.std.specs.Prelude.{◌≡◌, ◌+◌, ◌<◌, ◌^◌, OnOk};
 ghost use Rattle.px_parse.specs.Reading as spec;
 ghost use Rattle.px_parse.specs.Reading.{Gives};
+ghost use Rattle.px_parse.specs.Trees.{first_token};
 ghost use Rattle.px_parse.specs.View.{state_of};
 
 use crate::error::ParseError;
@@ -22,6 +23,23 @@ impl Tokens<'_> {
         match self.left {
             [first, ..] => first.word,
             [] => Word::End,
+        }
+    }
+
+    #[tactic(auto, unfolding(crate::specs::Reading::same_word))]
+    pub fn sees(&self, word: Word) -> bool
+        ensures { result ≡ spec.same_word (spec.next_word self.now.left.now) word }
+    {
+        self.peek() == word
+    }
+
+    /// The number of the next token.
+    pub fn next_token(&self) -> u32
+        ensures { result ≡ first_token self.now.left.now }
+    {
+        match self.left {
+            [first, ..] => first.token,
+            [] => 0,
         }
     }
 
