@@ -1,11 +1,11 @@
 -- Numbers of statements and expressions, in the order of the text, an outer one before an inner one.
 use Rattle.std.specs.Prelude.{ℕ, ◌+◌, List, [], ◌∷◌, Option, Some, None, map}
 use Rattle.px_lex.specs.declared.tree.Expr.{Expr, Expr-F, fold-Expr}
-use Rattle.px_lex.specs.declared.tree.ExprForm.{ExprForm, ExprForm-F}
+use Rattle.px_lex.specs.declared.tree.ExprForm.{ExprForm, ExprForm-F, fold-ExprForm}
 use Rattle.px_lex.specs.declared.tree.ExprForm.TheVariants.{Number, This, Name, Group, Field, Prefix, Binary}
 use Rattle.px_lex.specs.declared.tree.ExprForm.TheOpen.{ExprForm-F as e}
 use Rattle.px_lex.specs.declared.tree.Stmt.{Stmt, Stmt-F, fold-Stmt}
-use Rattle.px_lex.specs.declared.tree.StmtForm.{StmtForm, StmtForm-F}
+use Rattle.px_lex.specs.declared.tree.StmtForm.{StmtForm, StmtForm-F, fold-StmtForm}
 use Rattle.px_lex.specs.declared.tree.StmtForm.TheVariants.{Block, Empty, Local, Assign, Return}
 use Rattle.px_lex.specs.declared.tree.StmtForm.TheOpen.{StmtForm-F as s}
 use Rattle.px_lex.specs.declared.tree.Member.{Member}
@@ -61,6 +61,9 @@ number_expression x = do
 unfoldable pub numbered_expression : Expr → Numbering Expr
 numbered_expression = fold-Expr (Numbering ExprForm) (Numbering Expr) number_expression_form number_expression
 
+unfoldable pub numbered_expression_form : ExprForm → Numbering ExprForm
+numbered_expression_form = fold-ExprForm (Numbering ExprForm) (Numbering Expr) number_expression_form number_expression
+
 -- ---- statements
 
 abbrev pub number_returned : Option Expr → Numbering (Option Expr)
@@ -93,6 +96,9 @@ number_statement x = do
 
 unfoldable pub numbered_statement : Stmt → Numbering Stmt
 numbered_statement = fold-Stmt (Numbering StmtForm) (Numbering Stmt) number_statement_form number_statement
+
+unfoldable pub numbered_statement_form : StmtForm → Numbering StmtForm
+numbered_statement_form = fold-StmtForm (Numbering StmtForm) (Numbering Stmt) number_statement_form number_statement
 
 -- ---- members
 

@@ -4,6 +4,7 @@
 mod error;
 mod expressions;
 mod members;
+mod numbering;
 mod source;
 mod statements;
 mod tokens;
