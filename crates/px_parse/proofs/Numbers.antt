@@ -1,5 +1,6 @@
 -- The numbering of each form.
-use Rattle.std.proofs.Common.{◌≡◌, ℕ, ◌+◌, Bool, List, map, Option, refl, sym, ap, ◌∙◌}
+use Rattle.std.proofs.Common.{◌≡◌, ℕ, ◌+◌, Bool, List, [], ◌∷◌, ◌++◌, map, reverse, Option, refl, sym, ap, ◌∙◌, append_assoc}
+use Rattle.std.proofs.lemmas.List.{append-nil, reverse-append, reverse-reverse}
 use Rattle.px_lex.specs.declared.tree.Sign.{Sign}
 use Rattle.px_lex.specs.declared.tree.Name.{Name as NameData}
 use Rattle.px_lex.specs.declared.tree.TypeName.{TypeName}
@@ -68,3 +69,59 @@ of_assign place value = at_statement (s.Assign place value) _ (sym (rolls-Assign
 
 pub of_return : (value : Option Expr) → numbered_statement_form (Return value) ≡ (number_returned value >>= (λ x. pure (Return x)))
 of_return value = at_statement (s.Return value) _ (sym (rolls-Return value))
+
+-- ---- a form by its parts
+
+pub no_part : {B : Type 0} (whole : Numbering B) (x : B) (n : ℕ) → whole ≡ pure x → whole n ≡ (x, n)
+no_part whole x n h = ap (λ (k : Numbering _). k n) h
+
+pub one_part : {A B : Type 0} (whole : Numbering B) (part : Numbering A) (wrap : A → B) (n m : ℕ) (x : A) → whole ≡ (part >>= (λ y. pure (wrap y))) → part n ≡ (x, m) → whole n ≡ (wrap x, m)
+one_part {A} {B} whole part wrap n m x h p = ap (λ (k : Numbering B). k n) h ∙ ap (λ (q : A × ℕ). let r : B × ℕ = (wrap q.0, q.1) in r) p
+
+pub two_parts : {A B C : Type 0} (whole : Numbering C) (first : Numbering A) (second : Numbering B) (wrap : A → B → C) (n m k : ℕ) (x : A) (y : B) → whole ≡ (first >>= (λ a. second >>= (λ b. pure (wrap a b)))) → first n ≡ (x, m) → second m ≡ (y, k) → whole n ≡ (wrap x y, k)
+two_parts {A} {B} {C} whole first second wrap n m k x y h p q =
+    ap (λ (f : Numbering C). f n) h ∙ ap (λ (z : A × ℕ). let r : C × ℕ = (wrap z.0 (second z.1).0, (second z.1).1) in r) p
+    ∙ ap (λ (z : B × ℕ). let r : C × ℕ = (wrap x z.0, z.1) in r) q
+
+pub an_expression : (x : Expr) (n id next m : ℕ) (form : ExprForm) → id ≡ n → next ≡ n + 1 → numbered_expression_form x.form next ≡ (form, m) → numbered_expression x n ≡ (record { id = id; token = x.token; form = form }, m)
+an_expression x n id next m form h k p =
+    ap (λ (f : Numbering Expr). f n) (numbered_expression_is x)
+    ∙ ap (λ i. let r : Expr × ℕ = (record { id = n; token = x.token; form = (numbered_expression_form x.form i).0 }, (numbered_expression_form x.form i).1) in r) (sym k)
+    ∙ ap (λ (q : ExprForm × ℕ). let r : Expr × ℕ = (record { id = n; token = x.token; form = q.0 }, q.1) in r) p
+    ∙ ap (λ i. let r : Expr × ℕ = (record { id = i; token = x.token; form = form }, m) in r) (sym h)
+
+pub a_statement : (x : Stmt) (n id next m : ℕ) (form : StmtForm) → id ≡ n → next ≡ n + 1 → numbered_statement_form x.form next ≡ (form, m) → numbered_statement x n ≡ (record { id = id; token = x.token; form = form }, m)
+a_statement x n id next m form h k p =
+    ap (λ (f : Numbering Stmt). f n) (numbered_statement_is x)
+    ∙ ap (λ i. let r : Stmt × ℕ = (record { id = n; token = x.token; form = (numbered_statement_form x.form i).0 }, (numbered_statement_form x.form i).1) in r) (sym k)
+    ∙ ap (λ (q : StmtForm × ℕ). let r : Stmt × ℕ = (record { id = n; token = x.token; form = q.0 }, q.1) in r) p
+    ∙ ap (λ i. let r : Stmt × ℕ = (record { id = i; token = x.token; form = form }, m) in r) (sym h)
+
+-- ---- lists
+
+-- those that were numbered, and the rest
+abbrev pub joined : {A : Type 0} → List A → List A × ℕ → List A × ℕ
+joined xs p = (xs ++ p.0, p.1)
+
+pub joined_first : {A : Type 0} (f : A → Numbering A) (x : A) (xs done more : List A) (y : A) (n m : ℕ) → f x n ≡ (y, m) → more ≡ done ++ y ∷ [] → joined done (in_order (map f (x ∷ xs)) n) ≡ joined more (in_order (map f xs) m)
+joined_first {A} f x xs done more y n m p q =
+    ap (λ (z : A × ℕ). let r : List A × ℕ = (done ++ (z.0 ∷ (in_order (map f xs) z.1).0), (in_order (map f xs) z.1).1) in r) p
+    ∙ ap (λ (ys : List A). let r : List A × ℕ = (ys, (in_order (map f xs) m).1) in r) (sym (append_assoc done (y ∷ []) (in_order (map f xs) m).0))
+    ∙ ap (λ (ys : List A). joined ys (in_order (map f xs) m)) (sym q)
+
+pub joined_last : {A : Type 0} (f : A → Numbering A) (left done : List A) (n : ℕ) → left ≡ [] → joined done (in_order (map f (reverse left)) n) ≡ (done, n)
+joined_last {A} f left done n h = ap (λ (xs : List A). joined done (in_order (map f (reverse xs)) n)) h ∙ ap (λ (ys : List A). let r : List A × ℕ = (ys, n) in r) (append-nil done)
+
+pub reverse_last : {A : Type 0} (all front : List A) (x : A) → all ≡ front ++ x ∷ [] → reverse all ≡ x ∷ reverse front
+reverse_last all front x h = ap reverse h ∙ reverse-append front (x ∷ [])
+
+pub moved : {A : Type 0} (all front done more : List A) (x : A) → all ≡ front ++ x ∷ [] → more ≡ done ++ x ∷ [] → more ++ reverse front ≡ done ++ reverse all
+moved all front done more x h k = ap (λ (xs : List _). xs ++ reverse front) k ∙ append_assoc done (x ∷ []) (reverse front) ∙ ap (λ (xs : List _). done ++ xs) (sym (reverse_last all front x h))
+
+-- a turn of the loop: the last of those left in reverse is numbered
+pub joined_turn : {A : Type 0} (f : A → Numbering A) (all front done more : List A) (x y : A) (n m : ℕ) → all ≡ front ++ x ∷ [] → f x n ≡ (y, m) → more ≡ done ++ y ∷ [] → joined done (in_order (map f (reverse all)) n) ≡ joined more (in_order (map f (reverse front)) m)
+joined_turn f all front done more x y n m h p q =
+    ap (λ (xs : List _). joined done (in_order (map f xs) n)) (reverse_last all front x h) ∙ joined_first f x (reverse front) done more y n m p q
+
+pub joined_start : {A : Type 0} (f : A → Numbering A) (items left : List A) (n : ℕ) → left ≡ reverse items → in_order (map f items) n ≡ joined [] (in_order (map f (reverse left)) n)
+joined_start f items left n h = ap (λ (xs : List _). in_order (map f xs) n) (sym (ap reverse h ∙ reverse-reverse items))

@@ -5,7 +5,7 @@ use Rattle.px_lex.specs.declared.tree.Expr.{Expr, Expr-F, fold-Expr}
 use Rattle.px_lex.specs.declared.tree.ExprForm.{ExprForm-F}
 use Rattle.px_lex.specs.declared.tree.ExprForm.TheOpen.{ExprForm-F as e}
 use Rattle.px_lex.specs.declared.tree.Stmt.{Stmt, Stmt-F, fold-Stmt}
-use Rattle.px_lex.specs.declared.tree.StmtForm.{StmtForm, StmtForm-F, out-StmtForm}
+use Rattle.px_lex.specs.declared.tree.StmtForm.{StmtForm, StmtForm-F, fold-StmtForm, out-StmtForm}
 use Rattle.px_lex.specs.declared.tree.StmtForm.TheOpen.{StmtForm-F as s}
 use Rattle.px_lex.specs.declared.tree.Member.{Member}
 use Rattle.px_lex.specs.declared.tree.Member.TheVariants.{Field, Method}
@@ -48,6 +48,9 @@ nesting_of_form (s.Return (Some value)) = 1 + nesting_of_value value
 
 unfoldable pub nesting_of : Stmt → ℕ
 nesting_of = fold-Stmt ℕ ℕ nesting_of_form (λ x. x.form)
+
+unfoldable pub nesting_of_statement_form : StmtForm → ℕ
+nesting_of_statement_form = fold-StmtForm ℕ ℕ nesting_of_form (λ x. x.form)
 
 -- of a method's body, which is a block and no statement
 abbrev pub nesting_of_body : StmtForm-F StmtForm Stmt → ℕ
