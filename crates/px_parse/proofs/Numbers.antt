@@ -123,5 +123,5 @@ pub joined_turn : {A : Type 0} (f : A → Numbering A) (all front done more : Li
 joined_turn f all front done more x y n m h p q =
     ap (λ (xs : List _). joined done (in_order (map f xs) n)) (reverse_last all front x h) ∙ joined_first f x (reverse front) done more y n m p q
 
-pub joined_start : {A : Type 0} (f : A → Numbering A) (items left : List A) (n : ℕ) → left ≡ reverse items → in_order (map f items) n ≡ joined [] (in_order (map f (reverse left)) n)
-joined_start f items left n h = ap (λ (xs : List _). in_order (map f xs) n) (sym (ap reverse h ∙ reverse-reverse items))
+pub joined_start : {A : Type 0} (f : A → Numbering A) (items left done : List A) (n : ℕ) → left ≡ reverse items → done ≡ [] → in_order (map f items) n ≡ joined done (in_order (map f (reverse left)) n)
+joined_start f items left done n h k = ap (λ (xs : List _). joined [] (in_order (map f xs) n)) (sym (ap reverse h ∙ reverse-reverse items)) ∙ ap (λ (xs : List _). joined xs (in_order (map f (reverse left)) n)) (sym k)
