@@ -1,9 +1,25 @@
 //! The tokens of a program text, and its syntax tree.
 #![tactic(auto)]
 
+mod ahead;
+mod keyword;
+pub mod law;
 mod lexeme;
+mod lexer;
+mod piece;
+mod scan;
+mod text;
 mod token;
 pub mod tree;
+mod unbuilt;
+mod word;
 
 pub use lexeme::{Lexeme, Word};
+pub use lexer::lex;
+pub use text::spelling;
 pub use token::{Token, TokenKind};
+pub use unbuilt::first_unbuilt;
+pub use word::lexemes;
+
+#[cfg(test)]
+mod tests;

@@ -1,0 +1,226 @@
+use crate::token::TokenKind::{Bad, End, Id, Key, Number, Sign, Str};
+use crate::{TokenKind, Word, first_unbuilt, lex, lexemes};
+use std::alloc::AllocError;
+
+// Kind, first byte, byte behind the last, line.
+type Row = (TokenKind, u32, u32, u32);
+
+const TEXTS: [(&[u8], &[Row]); 14] = [
+    (b"", &[(End, 0, 0, 1)]),
+    (
+        b"long x1 = 0L;\n",
+        &[
+            (Key, 0, 4, 1),
+            (Id, 5, 7, 1),
+            (Sign, 8, 9, 1),
+            (Number, 10, 12, 1),
+            (Sign, 12, 13, 1),
+            (End, 14, 14, 2),
+        ],
+    ),
+    // A CR ends no line.
+    (
+        b"a\r\rb\r\n\tc",
+        &[(Id, 0, 1, 1), (Id, 3, 4, 1), (Id, 7, 8, 2), (End, 8, 8, 2)],
+    ),
+    // Words that only begin like keywords, and literals that are spelled as words.
+    (
+        b"longs $ _9 true null False",
+        &[
+            (Id, 0, 5, 1),
+            (Id, 6, 7, 1),
+            (Id, 8, 10, 1),
+            (Key, 11, 15, 1),
+            (Key, 16, 20, 1),
+            (Id, 21, 26, 1),
+            (End, 26, 26, 1),
+        ],
+    ),
+    (
+        b"007 10l2",
+        &[
+            (Number, 0, 1, 1),
+            (Number, 1, 2, 1),
+            (Number, 2, 3, 1),
+            (Number, 4, 7, 1),
+            (Number, 7, 8, 1),
+            (End, 8, 8, 1),
+        ],
+    ),
+    // The longest sign first.
+    (
+        b">>>>=>>=+++=&&|=!==-",
+        &[
+            (Sign, 0, 3, 1),
+            (Sign, 3, 5, 1),
+            (Sign, 5, 8, 1),
+            (Sign, 8, 10, 1),
+            (Sign, 10, 12, 1),
+            (Sign, 12, 14, 1),
+            (Sign, 14, 16, 1),
+            (Sign, 16, 18, 1),
+            (Sign, 18, 19, 1),
+            (Sign, 19, 20, 1),
+            (End, 20, 20, 1),
+        ],
+    ),
+    // No such signs in the grammar.
+    (
+        b"->::?@#",
+        &[
+            (Sign, 0, 1, 1),
+            (Sign, 1, 2, 1),
+            (Bad, 2, 3, 1),
+            (Bad, 3, 4, 1),
+            (Bad, 4, 5, 1),
+            (Bad, 5, 6, 1),
+            (Bad, 6, 7, 1),
+            (End, 7, 7, 1),
+        ],
+    ),
+    // A comment ends at its line's LF, or with the text.
+    (
+        b"a//b\r\n/*\n**/c// d",
+        &[(Id, 0, 1, 1), (Id, 12, 13, 3), (End, 17, 17, 3)],
+    ),
+    // A `/*/` isn't closed.
+    (
+        b"/*/",
+        &[
+            (Sign, 0, 1, 1),
+            (Sign, 1, 2, 1),
+            (Sign, 2, 3, 1),
+            (End, 3, 3, 1),
+        ],
+    ),
+    (b"/*/*/x", &[(Id, 5, 6, 1), (End, 6, 6, 1)]),
+    // No comment and no string literal holds an illegal byte.
+    (
+        b"//\x80\n\"\x7f\"",
+        &[
+            (Sign, 0, 1, 1),
+            (Sign, 1, 2, 1),
+            (Bad, 2, 3, 1),
+            (Bad, 4, 5, 2),
+            (Bad, 5, 6, 2),
+            (Bad, 6, 7, 2),
+            (End, 7, 7, 2),
+        ],
+    ),
+    (
+        b"\"a\\\"\\n\" \"\"\"",
+        &[
+            (Str, 0, 7, 1),
+            (Str, 8, 10, 1),
+            (Bad, 10, 11, 1),
+            (End, 11, 11, 1),
+        ],
+    ),
+    // Of a literal that isn't closed on its line, or has another escape, the quote alone is bad.
+    (
+        b"\"a\n\"\\r\"",
+        &[
+            (Bad, 0, 1, 1),
+            (Id, 1, 2, 1),
+            (Bad, 3, 4, 2),
+            (Bad, 4, 5, 2),
+            (Id, 5, 6, 2),
+            (Bad, 6, 7, 2),
+            (End, 7, 7, 2),
+        ],
+    ),
+    (
+        b"/* a",
+        &[
+            (Sign, 0, 1, 1),
+            (Sign, 1, 2, 1),
+            (Id, 3, 4, 1),
+            (End, 4, 4, 1),
+        ],
+    ),
+];
+
+#[test]
+fn texts_have_these_tokens(rt: HostRuntime) -> Result<(), AllocError> {
+    for (text, want) in TEXTS {
+        let tokens = lex(rt.alloc(), text)?;
+        assert_eq!(rt; tokens.len(), want.len(), "at {text:?}");
+        for (token, row) in tokens.iter().zip(want.iter()) {
+            let found = (token.kind, token.from, token.to, token.line);
+            assert_eq!(rt; found, *row, "at {text:?}");
+        }
+    }
+    Ok(())
+}
+
+#[test]
+fn tokens_have_these_words(rt: HostRuntime) -> Result<(), AllocError> {
+    let text = b"class C { long x; } this .+-* ( , ) throws int \"a\" += 1 @".as_slice();
+    let want = [
+        Word::Class,
+        Word::Name,
+        Word::OpenBrace,
+        Word::Long,
+        Word::Name,
+        Word::Semicolon,
+        Word::CloseBrace,
+        Word::This,
+        Word::Dot,
+        Word::Plus,
+        Word::Minus,
+        Word::Times,
+        Word::Open,
+        Word::Comma,
+        Word::Close,
+        Word::Throws,
+        Word::Unbuilt,
+        Word::Unbuilt,
+        Word::Unbuilt,
+        Word::Number,
+        Word::Bad,
+        Word::End,
+    ];
+    let tokens = lex(rt.alloc(), text)?;
+    let lexemes = lexemes(rt.alloc(), text, &tokens)?;
+    assert_eq!(rt; lexemes.len(), want.len());
+    for (lexeme, word) in lexemes.iter().zip(want.iter()) {
+        assert_eq!(rt; lexeme.word, *word, "at {}", lexeme.token);
+    }
+    Ok(())
+}
+
+const UNBUILT: [(&[u8], Option<u32>); 16] = [
+    (b"", None),
+    (
+        b"public class A {\n long f(long x) throws B {\n this.y = x + 1; }\n void g() { } }",
+        None,
+    ),
+    // Another token of the language, but no bad byte.
+    (b"class A {\n int x; }", Some(2)),
+    (b"\n\n@ +=", Some(3)),
+    (b"@\n#", None),
+    (b"\n\"a\"", Some(2)),
+    // A second class.
+    (b"class A { }\nclass B { }", Some(2)),
+    // A type that is a name.
+    (b"a\nb", Some(2)),
+    (b"A // x\n /* y */ @ b", None),
+    // A member of another object than `this`.
+    (b"this.\na.b", Some(2)),
+    (b"\n.a", Some(2)),
+    // A call.
+    (b"\nf(", Some(2)),
+    (b"void f(long g(", None),
+    (b"this.\nf(", Some(2)),
+    // A cast.
+    (b"(\nlong)", Some(2)),
+    (b"(\nlong x)", None),
+];
+
+#[test]
+fn unbuilt_forms_are_on_these_lines(rt: HostRuntime) -> Result<(), AllocError> {
+    for (text, want) in UNBUILT {
+        assert_eq!(rt; first_unbuilt(rt.alloc(), text)?, want, "at {text:?}");
+    }
+    Ok(())
+}
