@@ -13,7 +13,7 @@ use Rattle.px_lex.specs.declared.tree.TypeName.{TypeName}
 use Rattle.px_lex.specs.declared.tree.Param.{Param}
 use Rattle.px_lex.specs.declared.tree.Member.{Member}
 use Rattle.px_lex.specs.declared.tree.Class.{Class}
-use Rattle.px_parse.specs.Spelling.{spelled}
+use Rattle.px_lex.specs.Lexemes.{spelled}
 use Rattle.px_parse.specs.Trees.{first_token, type_of, number_of, this_of, variable_of, field_of, group_of, negation_of, binary_of, block_of, empty_of, local_of, assignment_of, return_of, param_of, field_declaration_of, method_of, class_of}
 
 -- how tightly an expression binds

@@ -17,7 +17,7 @@ use Rattle.px_lex.specs.declared.tree.Param.{Param}
 use Rattle.px_lex.specs.declared.tree.Member.{Member}
 use Rattle.px_lex.specs.declared.tree.Member.TheVariants.{Field, Method}
 use Rattle.px_lex.specs.declared.tree.Class.{Class}
-use Rattle.px_parse.specs.Spelling.{spelled}
+use Rattle.px_lex.specs.Lexemes.{spelled}
 
 -- ---- names, numbers, types
 

@@ -5,8 +5,10 @@ mod error;
 mod expressions;
 mod members;
 mod numbering;
+mod program;
 mod source;
 mod statements;
 mod tokens;
 
 pub use error::ParseError;
+pub use program::parse;

@@ -1,10 +1,10 @@
 //! The text that is read.
 ghost use Rattle.std.specs.Prelude.{◌≡◌, IfOk};
-ghost use Rattle.px_parse.specs.Spelling.{spelled};
+ghost use Rattle.px_lex.specs.Lexemes.{spelled};
 ghost use Rattle.px_parse.specs.Trees as spec;
 
-use px_lex::Lexeme;
 use px_lex::tree::{Base, Expr, ExprForm, Name, TypeName};
+use px_lex::{Lexeme, spelling};
 use sqlite_items::Items;
 use std::alloc::{AllocError, Global};
 
@@ -13,14 +13,6 @@ use std::alloc::{AllocError, Global};
 pub struct Source<'a> {
     pub alloc: Global,
     pub bytes: &'a [u8],
-}
-
-fn spelling(bytes: &[u8], from: u32, to: u32) -> &[u8]
-    ensures { result.now ≡ spelled bytes.now from to }
-{
-    let end = (to as usize).min(bytes.len());
-    let start = (from as usize).min(end);
-    &bytes[start..end]
 }
 
 fn is_long(spelling: &[u8]) -> bool

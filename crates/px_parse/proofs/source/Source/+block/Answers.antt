@@ -28,7 +28,7 @@ items-loop-turn-preserved t c =
           let one = by_word (item_on c.args.self.now.bytes.now (block c.args.self.now.bytes.now n)) in
           c.loop-turn.invariant.same n h
           ∙ repeated_turn is_no_brace one (length c.args.tokens.now.left.now - c.loop-turn._turn) (length c.args.tokens.now.left.now - (c.loop-turn._turn + 1)) c.loop-turn.items c.push.new.self c.in_ok-item.field-0 (state_of c.loop-turn.tokens) (state_of c.item.new.tokens) (ap not (sym c.sees.ensures ∙ c.if-sees.false)) (omega arith)
-              (c.in_ok-item.ensures.gives n (omega (arith, h, c.loop-turn.invariant.room))) c.in_ok-push.ensures.ok;
+          (c.in_ok-item.ensures.gives n (omega (arith, h, c.loop-turn.invariant.room))) c.in_ok-push.ensures.ok;
     }
 
 pub items-returns-clause-gives : goal.items-returns-clause-gives
