@@ -1,0 +1,14 @@
+//! The syntax of programs: from a text to its tree.
+#![tactic(auto)]
+
+mod error;
+mod expressions;
+mod members;
+mod numbering;
+mod program;
+mod source;
+mod statements;
+mod tokens;
+
+pub use error::ParseError;
+pub use program::parse;

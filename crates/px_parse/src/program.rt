@@ -1,0 +1,31 @@
+//! From a text to its program.
+ghost use Rattle.std.specs.Prelude.{◌≡◌, ◌<◌, ◌^◌, length};
+ghost use Rattle.px_parse.specs.Programs.{program_of};
+ghost use Rattle.px_parse.specs.Reading.{Finds};
+
+use crate::error::ParseError;
+use crate::numbering::number;
+use crate::source::Source;
+use px_lex::tree::Program;
+use sqlite_items::Items;
+use std::alloc::Global;
+
+/// How deep a program may nest.
+const MAX_NESTING: u32 = 100;
+
+/// The program of a text.
+pub fn parse(alloc: Global, bytes: &[u8]) -> Result<Program, ParseError>
+    requires { length bytes.now < 2 ^ 31 }
+    ensures { Finds (program_of bytes.now) result }
+{
+    let tokens = px_lex::lex(alloc, bytes)?;
+    let lexemes = px_lex::lexemes(alloc, bytes, tokens.as_slice())?;
+    let source = Source { alloc, bytes };
+    let class = source.whole(lexemes.as_slice(), MAX_NESTING)?;
+    let mut classes = Items::new(alloc);
+    classes.push(number(alloc, class)?)?;
+    Ok(Program {
+        classes,
+        tokens: Items::from_vec(tokens),
+    })
+}
