@@ -1,0 +1,33 @@
+-- How a command ends.
+use Rattle.std.specs.Prelude.{◌≡◌, ◌⊎◌, ℕ, ◌≤◌, List, ◌++◌, length, take, Option, Some, None, IfSome}
+use Rattle.px_outside.specs.Causes.{Rose}
+use Rattle.px_main.specs.Answers.{Answer}
+
+-- what a sink took, where it tells: nothing, a front of the text, or all of it
+abbrev pub TookNothing : Option (List ℕ) → Option (List ℕ) → Type 0
+TookNothing None now = Unit {0}
+TookNothing (Some old) now = now ≡ Some old
+
+abbrev pub TookFront : Option (List ℕ) → Option (List ℕ) → List ℕ → Type 0
+TookFront None now text = Unit {0}
+TookFront (Some old) now text = (k : ℕ) × (k ≤ length text) × (now ≡ Some (old ++ take k text))
+
+abbrev pub TookAll : Option (List ℕ) → Option (List ℕ) → List ℕ → Type 0
+TookAll None now text = Unit {0}
+TookAll (Some old) now text = now ≡ Some (old ++ text)
+
+-- `told` is the answer that the files fix, as far as they are told; s and k are the counts of faults of shelf and sink, before and after; `old` and `now` are what the sink took.
+pub record Ends (told : Option Answer) (status s s' k k' : ℕ) (old now : Option (List ℕ)) : Type 0 where
+  -- the whole text was taken
+  pub done : status ≡ 0 → IfSome told (λ a. (a.0 ≡ 0) × TookAll old now a.1)
+  -- a file couldn't be read
+  pub read : status ≡ 2 → Rose s s' × TookNothing old now
+  -- the text couldn't be written
+  pub write : status ≡ 3 → Rose k k' × IfSome told (λ a. (a.0 ≡ 0) × TookFront old now a.1)
+  -- there was too little memory
+  pub memory : status ≡ 4 → TookNothing old now
+  -- the program or the job is refused; where its line couldn't be written the status stays
+  pub refused : 5 ≤ status → IfSome told (λ a. (a.0 ≡ status) × (TookAll old now a.1 ⊎ (Rose k k' × TookFront old now a.1)))
+  -- where nothing failed the status is the one that the files fix, want of memory aside
+  pub complete : ¬ (Rose s s') → ¬ (Rose k k') → IfSome told (λ a. (status ≡ a.0) ⊎ (status ≡ 4))
+  pub few : status ≤ 6
