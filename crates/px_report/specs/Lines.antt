@@ -27,7 +27,7 @@ abbrev pub heap_text : List (List ℕ) → ℕ → Session → List ℕ
 heap_text classes number session = line (codes "heap" ∷ decimal number ∷ []) ++ numbered (object_line classes) 0 session.heap
 
 -- the calls in order, and the heap of each session; the sessions have numbers from 1
-abbrev pub run_text : List (List ℕ) → List Made → List Session → List ℕ
+unfoldable pub run_text : List (List ℕ) → List Made → List Session → List ℕ
 run_text classes made sessions =
     line (codes "calls" ∷ [])
     ++ flat_map call_line made

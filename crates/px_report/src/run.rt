@@ -9,6 +9,7 @@ use px_value::Text;
 use std::alloc::{AllocError, Global};
 
 /// The replies of the calls, and what each session's heap holds. A class has the name that stands at its number.
+#[tactic(auto, unfolding(crate::specs::Lines::run_text))]
 pub fn run_text(
     alloc: Global,
     classes: &[Text],

@@ -1,3 +1,5 @@
+ghost use Rattle.std.specs.Prelude.{◌≡◌, length, IfOk};
+
 use super::run_text;
 use px_mean::{Made, Reply, Session};
 use px_value::{Header, Heap, Kind, Text, Thrown, Value, Values};
@@ -8,7 +10,10 @@ fn text(alloc: Global, bytes: &[u8]) -> Result<Text, AllocError> {
     Ok(Text::from_vec(Vec::from_slice(alloc, bytes)?))
 }
 
-fn cells(alloc: Global) -> Result<Values, AllocError> {
+// A value of each form.
+fn cells(alloc: Global) -> Result<Values, AllocError>
+    ensures { IfOk result (λ cells. length cells ≡ 7) }
+{
     let mut cells = Values::new(alloc);
     cells.push(Value::Int(-2147483648))?;
     cells.push(Value::Long(9223372036854775807))?;
