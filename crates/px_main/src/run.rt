@@ -87,11 +87,7 @@ fn class_names(alloc: Global, classes: &[Class]) -> Result<Vec<Text>, AllocError
 }
 
 /// The text of the serial run of the calls.
-pub fn run(
-    alloc: Global,
-    checked: &Checked,
-    calls: &[px_job::Call],
-) -> Result<Vec<u8>, AllocError>
+pub fn run(alloc: Global, checked: &Checked, calls: &[px_job::Call]) -> Result<Vec<u8>, AllocError>
     requires { length (program_fields checked.now.program) ≤ max_fields }
     ensures { IfOk result (λ text. text.items ≡ text_of checked.now (run_of checked.now calls.now)) }
 {

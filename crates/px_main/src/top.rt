@@ -42,7 +42,7 @@ const MAX_JOB: u32 = 16777216;
 
 /// A status, and all that is to be written with it.
 #[derive(Debug, Drop)]
-struct Answer {
+struct Prepared {
     status: u8,
     text: Vec<u8>,
 }
@@ -71,18 +71,18 @@ fn job_code(code: JobCode) -> &'static [u8]
     }
 }
 
-fn program_refused(alloc: Global, fault: Fault) -> Result<Answer, AllocError>
+fn program_refused(alloc: Global, fault: Fault) -> Result<Prepared, AllocError>
     ensures { IfOk result (λ a. refused_program fault ≡ (a.status, a.text.items)) }
 {
     let text = refusal_text(alloc, b"program", fault.line, program_code(fault.code))?;
-    Ok(Answer { status: 5, text })
+    Ok(Prepared { status: 5, text })
 }
 
-fn job_refused(alloc: Global, line: u32, code: &[u8]) -> Result<Answer, AllocError>
+fn job_refused(alloc: Global, line: u32, code: &[u8]) -> Result<Prepared, AllocError>
     ensures { IfOk result (λ a. refused_job line code.now ≡ (a.status, a.text.items)) }
 {
     let text = refusal_text(alloc, b"job", line, code)?;
-    Ok(Answer { status: 6, text })
+    Ok(Prepared { status: 6, text })
 }
 
 // The answer for a program that is accepted.
@@ -90,7 +90,7 @@ fn answer_job(
     alloc: Global,
     checked: &Checked,
     job: &Option<Vec<u8>>,
-) -> Result<Answer, AllocError>
+) -> Result<Prepared, AllocError>
     requires few { length (program_fields checked.now.program) ≤ max_fields }
     requires fits { IfSome job.now (λ bytes. length bytes.items ≤ max_job) }
     ensures { IfOk result (λ a. with_job checked.now (option_map (λ v. v.items) job.now) ≡ (a.status, a.text.items)) }
@@ -102,7 +102,7 @@ fn answer_job(
     match read_job(alloc, bytes, checked.entries.as_slice()) {
         Ok(job) => {
             let text = run(alloc, checked, job.calls.as_slice())?;
-            Ok(Answer { status: 0, text })
+            Ok(Prepared { status: 0, text })
         }
         Err(JobError::Fault(fault)) => job_refused(alloc, fault.line, job_code(fault.code)),
         Err(JobError::NoMemory) => Err(AllocError),
@@ -114,7 +114,7 @@ fn answer_kept(
     alloc: Global,
     program: &Option<Vec<u8>>,
     job: &Option<Vec<u8>>,
-) -> Result<Answer, AllocError>
+) -> Result<Prepared, AllocError>
     requires program { IfSome program.now (λ bytes. length bytes.items ≤ max_program) }
     requires job { IfSome job.now (λ bytes. length bytes.items ≤ max_job) }
     ensures { IfOk result (λ a. kept_answer (option_map (λ v. v.items) program.now) (option_map (λ v. v.items) job.now) ≡ (a.status, a.text.items)) }
@@ -125,7 +125,12 @@ fn answer_kept(
     }
 }
 
-fn answer<S: Shelf>(alloc: Global, program: &str, job: &str, shelf: &mut S) -> Result<Answer, Stop>
+fn prepare<S: Shelf>(
+    alloc: Global,
+    program: &str,
+    job: &str,
+    shelf: &mut S,
+) -> Result<Prepared, Stop>
     ensures told { IfOk result (λ r. IfSome (told_answer (S.holds shelf.old program.now) (S.holds shelf.old job.now)) (λ a. a ≡ (r.status, r.text.items))) }
     ensures later { S.faults shelf.old ≤ S.faults shelf.new }
     ensures fault { result ≡ Err Stop.ReadFault → Rose (S.faults shelf.old) (S.faults shelf.new) }
@@ -144,18 +149,12 @@ fn run_files<S: Shelf, K: Sink>(alloc: Global, files: Files, shelf: &mut S, sink
         (S.faults shelf.old) (S.faults shelf.new) (K.faults sink.old) (K.faults sink.new) (K.taken sink.old) (K.taken sink.new) }
     ensures not_usage { result ≢ 1 }
 {
-    match answer(alloc, files.program, files.job, shelf) {
+    match prepare(alloc, files.program, files.job, shelf) {
         Err(Stop::ReadFault) => 2,
         Err(Stop::NoMemory) => 4,
         Ok(answer) => match write_all(sink, answer.text.as_slice()) {
             Ok(()) => answer.status,
-            Err(_) => {
-                if answer.status == 0 {
-                    3
-                } else {
-                    answer.status
-                }
-            }
+            Err(_) => { if answer.status == 0 { 3 } else { answer.status } }
         },
     }
 }
