@@ -2,3 +2,4 @@ pub mod Pieces
 pub mod LinesCut
 pub mod WordsCut
 pub mod PlacesMore
+pub mod SpelledWords

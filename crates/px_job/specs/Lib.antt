@@ -5,5 +5,6 @@ pub mod Names
 pub mod Texts
 pub mod Arguments
 pub mod Places
+pub mod Spelling
 pub mod Calls
 pub mod Jobs
