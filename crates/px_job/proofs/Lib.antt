@@ -3,3 +3,4 @@ pub mod LinesCut
 pub mod WordsCut
 pub mod PlacesMore
 pub mod SpelledWords
+pub mod FiledLines

@@ -1,14 +1,14 @@
 -- The words that are read are those that are spelled.
-use Rattle.std.proofs.Common.{◌≡◌, ℕ, ◌==◌, Bool, true, false, not, ◌&&◌, ◌||◌, List, [], ◌∷◌, ◌++◌, ◌⊎◌, inl, inr, Option, Some, None, if◌then◌else◌, refl, ap, sym, ◌∙◌, subst, arith}
+use Rattle.std.proofs.Common.{◌≡◌, ℕ, ◌==◌, Bool, true, false, not, ◌||◌, List, [], ◌∷◌, ◌++◌, inl, inr, Option, Some, None, if◌then◌else◌, refl, ap, sym, ◌∙◌, subst, arith}
 use Rattle.std.specs.List.{list_all, AllByRecursion}
 use Rattle.std.specs.Option.{is_some, option_map}
 use Rattle.std.proofs.lemmas.Bool.{false≢true}
 use Rattle.px_job.specs.Lines.{begins_with, with_byte}
-use Rattle.px_job.specs.Words.{place_after, is_between, ended, words_from, words_of}
-use Rattle.px_job.specs.Texts.{escaped_byte, step_of, stepped, text_from, text_of}
+use Rattle.px_job.specs.Words.{place_after, is_between, words_from, words_of}
+use Rattle.px_job.specs.Texts.{escaped_byte, stepped, text_from}
 use Rattle.px_job.specs.declared.texts.Step.TheVariants.{Byte, Backslash, Close, Broken}
 use Rattle.px_job.proofs.WordsCut.{goes_on_here, ends_here, ended_begun}
-use Rattle.px_job.specs.Spelling.{is_space, is_plain, IsWord, Stops, Spelled, nothing, space, word, WordsAreSpelled}
+use Rattle.px_job.specs.Spelling.{is_space, IsWord, Stops, Spelled, nothing, space, word, WordsAreSpelled}
 use Rattle.px_job.specs.declared.words.Place.{Place}
 use Rattle.px_job.specs.declared.words.Place.TheVariants.{Between, Plain, Quoted, Escaped}
 
