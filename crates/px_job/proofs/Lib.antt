@@ -4,3 +4,4 @@ pub mod WordsCut
 pub mod PlacesMore
 pub mod SpelledWords
 pub mod FiledLines
+pub mod FittingCalls

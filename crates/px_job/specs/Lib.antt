@@ -9,3 +9,4 @@ pub mod Filing
 pub mod Spelling
 pub mod Calls
 pub mod Jobs
+pub mod Fitting

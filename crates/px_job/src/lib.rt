@@ -16,5 +16,5 @@ mod texts;
 mod words;
 
 pub use job::{Call, Job, JobCode, JobError, JobFault};
-pub use laws::{lines_are_filed, words_are_spelled};
+pub use laws::{calls_fit, lines_are_filed, words_are_spelled};
 pub use read::read_job;
