@@ -2,3 +2,6 @@ pub mod Pieces
 pub mod LinesCut
 pub mod WordsCut
 pub mod PlacesMore
+pub mod SpelledWords
+pub mod FiledLines
+pub mod FittingCalls

@@ -1,7 +1,7 @@
 -- The first line of a file.
-use Rattle.std.proofs.Common.{◌≡◌, ℕ, ◌+◌, ◌-◌, ◌<◌, ◌≤◌, ◌==◌, ◌&&◌, Bool, true, false, List, [], ◌∷◌, length, take, drop, get_or, if◌then◌else◌, refl, ap, sym, ◌∙◌, arith, subst}
+use Rattle.std.proofs.Common.{◌≡◌, ℕ, ◌+◌, ◌-◌, ◌<◌, ◌≤◌, List, [], ◌∷◌, length, take, drop, get_or, ap, sym, ◌∙◌, arith}
 use Rattle.std.proofs.lemmas.List.{take_more, drop_more, take_rest, take_all, drop_all, drop-drop}
-use Rattle.px_job.specs.Lines.{begins_with, end_len, lines_of, with_byte}
+use Rattle.px_job.specs.Lines.{end_len, lines_of, with_byte}
 use Rattle.px_job.proofs.Pieces.{with_front, front_more, front_whole, front_only}
 
 -- a line that ends here

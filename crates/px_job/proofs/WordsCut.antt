@@ -1,7 +1,7 @@
 -- The first word of a line.
-use Rattle.std.proofs.Common.{◌≡◌, ℕ, ◌+◌, ◌<◌, ◌≤◌, Bool, true, false, List, [], ◌∷◌, length, take, drop, get_or, if◌then◌else◌, refl, ap, sym, ◌∙◌, arith}
+use Rattle.std.proofs.Common.{◌≡◌, ℕ, ◌+◌, ◌<◌, ◌≤◌, true, false, List, [], ◌∷◌, length, take, drop, get_or, refl, ap, sym, ◌∙◌, arith}
 use Rattle.std.proofs.lemmas.List.{take_more, drop_more, drop_all}
-use Rattle.px_job.specs.Lines.{begins_with, with_byte}
+use Rattle.px_job.specs.Lines.{with_byte}
 use Rattle.px_job.specs.Words.{place_after, is_between, ended, words_from, words_of}
 use Rattle.px_job.specs.declared.words.Place.{Place}
 use Rattle.px_job.specs.declared.words.Place.TheVariants.{Between, Plain, Quoted, Escaped}

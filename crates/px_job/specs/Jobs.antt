@@ -34,7 +34,8 @@ abbrev pub job_from : List Entry → Option ℕ → List (List ℕ) → Result (
 job_from entries (Some number) lines = Err (record { line = number; code = Later })
 job_from entries None lines = calls_from entries 1 [] lines
 
-abbrev pub job_of : List Entry → List ℕ → Result (List Call) JobFault
+-- the calls of a file, or its first fault
+unfoldable pub job_of : List Entry → List ℕ → Result (List Call) JobFault
 job_of entries bytes = job_from entries (later_from 1 (lines_of bytes)) (lines_of bytes)
 
 -- What was answered is what the file means, unless memory ran out.

@@ -5,5 +5,8 @@ pub mod Names
 pub mod Texts
 pub mod Arguments
 pub mod Places
+pub mod Filing
+pub mod Spelling
 pub mod Calls
 pub mod Jobs
+pub mod Fitting

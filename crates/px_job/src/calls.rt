@@ -20,7 +20,7 @@ use std::alloc::{AllocError, Global};
 const MAX_CALLS: usize = 2000;
 
 /// Why a line has no meaning.
-#[derive(Clone, Copy, Debug, PartialEq, Eq)]
+#[derive(Clone, Copy)]
 pub(crate) enum Refusal {
     Breaks(JobCode),
     NoMemory,

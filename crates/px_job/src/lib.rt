@@ -5,6 +5,7 @@ mod arguments;
 mod calls;
 mod entries;
 mod job;
+mod laws;
 mod lines;
 mod names;
 mod read;
@@ -15,4 +16,5 @@ mod texts;
 mod words;
 
 pub use job::{Call, Job, JobCode, JobError, JobFault};
+pub use laws::{calls_fit, lines_are_filed, words_are_spelled};
 pub use read::read_job;

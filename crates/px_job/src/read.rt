@@ -16,6 +16,7 @@ use sqlite_items::Items;
 use std::alloc::Global;
 
 /// The calls of a file, for the entries of a program.
+#[tactic(auto, unfolding(crate::specs::Jobs::job_of))]
 pub fn read_job(alloc: Global, bytes: &[u8], entries: &[Entry]) -> Result<Job, JobError>
     requires { length bytes.now < 2 ^ 31 }
     ensures { Gives result (job_of entries.now bytes.now) }

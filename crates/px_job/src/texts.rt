@@ -7,7 +7,7 @@ ghost use Rattle.px_job.specs.Texts.{step_of, escaped_byte, text_from, text_of};
 use std::alloc::{AllocError, Global};
 
 /// What a byte is to the text in which it stands.
-#[derive(Clone, Copy, Debug, PartialEq, Eq)]
+#[derive(Clone, Copy)]
 pub(crate) enum Step {
     Byte(u8),
     Backslash,

@@ -5,7 +5,7 @@ ghost use Rattle.px_job.specs.Lines.{begins_with};
 ghost use Rattle.px_job.specs.Words.{place_after, is_between, words_from, words_of};
 
 /// Where a line stands.
-#[derive(Clone, Copy, Debug, PartialEq, Eq)]
+#[derive(Clone, Copy)]
 pub(crate) enum Place {
     Between,
     Plain,
