@@ -241,20 +241,20 @@ factors_go : (source : List ℕ) (inner : Reads Expr) (n : ℕ) (l e : Expr) (ti
 unfolding factors
 factors_go source inner zero l e times r q r' xs rest h i j k right = absurd (omega arith)
 factors_go source inner (suc n) l e times r q r' xs rest h i j k right = (
-    n,
-    omega arith,
-    ap (λ v. factors_on source (prefixed source n inner) (factors source n inner) l v (r, times ∷ xs)) h
-        ∙ then_is (operation sign.Times (prefixed source n inner) l (r, times ∷ xs)) (factors source n inner) (binary_of sign.Times times l e) (r', rest) (operation_is sign.Times (prefixed source n inner) l e times r q r' xs rest j (right n (omega arith))),
+  n,
+  omega arith,
+  ap (λ v. factors_on source (prefixed source n inner) (factors source n inner) l v (r, times ∷ xs)) h
+      ∙ then_is (operation sign.Times (prefixed source n inner) l (r, times ∷ xs)) (factors source n inner) (binary_of sign.Times times l e) (r', rest) (operation_is sign.Times (prefixed source n inner) l e times r q r' xs rest j (right n (omega arith))),
 )
 
 terms_go : (source : List ℕ) (inner : Reads Expr) (n : ℕ) (l e : Expr) (op : Sign) (sign_word : Lexeme) (r q r' : ℕ) (xs rest : List Lexeme) → IsSumSign sign_word.word op → r < n → r ≡ suc q → r' ≤ q → ((k : ℕ) → q < k → product source k inner (q, xs) ≡ Some (e, (r', rest))) → (left : ℕ) × (r' < left) × (terms source n inner l (r, sign_word ∷ xs) ≡ terms source left inner (binary_of op sign_word l e) (r', rest))
 unfolding terms
 terms_go source inner zero l e op sign_word r q r' xs rest h i j k right = absurd (omega arith)
 terms_go source inner (suc n) l e op sign_word r q r' xs rest h i j k right = (
-    n,
-    omega arith,
-    ap (λ (p : Reads Expr). p (r, sign_word ∷ xs)) (terms_step source (product source n inner) (terms source n inner) l sign_word.word op h)
-        ∙ then_is (operation op (product source n inner) l (r, sign_word ∷ xs)) (terms source n inner) (binary_of op sign_word l e) (r', rest) (operation_is op (product source n inner) l e sign_word r q r' xs rest j (right n (omega arith))),
+  n,
+  omega arith,
+  ap (λ (p : Reads Expr). p (r, sign_word ∷ xs)) (terms_step source (product source n inner) (terms source n inner) l sign_word.word op h)
+      ∙ then_is (operation op (product source n inner) l (r, sign_word ∷ xs)) (terms source n inner) (binary_of op sign_word l e) (r', rest) (operation_is op (product source n inner) l e sign_word r q r' xs rest j (right n (omega arith))),
 )
 
 product_read : (source : List ℕ) (times : Lexeme) (l e : Expr) (ls rs : List Lexeme) → times.word ≡ w.Times → IsRead source Product l ls → IsRead source Prefixed e rs → IsRead source Product (binary_of sign.Times times l e) (ls ++ times ∷ rs)
@@ -283,9 +283,9 @@ sum_read source op sign_word l e ls rs h left right m n r r' rest a d i j no_dot
     let is = sum_sign_is sign_word.word op h in
     let t = left m n r (suc q) (sign_word ∷ rs ++ rest) (omega (arith, a, o)) (omega (arith, d, p)) i j is.0 is.1 in
     let u = terms_go source (expression source m) t.0 l e op sign_word (suc q) q r' (rs ++ rest) rest h t.1 refl (omega arith)
-        (λ k z.
-        let v = right m k q r' rest refl (omega (arith, d, p, a, o)) (omega (arith, a, o, i)) z no_dot in
-        v.2 ∙ factors_stop source v.0 (expression source m) e r' rest v.1 no_times) in
+    (λ k z.
+    let v = right m k q r' rest refl (omega (arith, d, p, a, o)) (omega (arith, a, o, i)) z no_dot in
+    v.2 ∙ factors_stop source v.0 (expression source m) e r' rest v.1 no_times) in
     (u.0, u.1, ap (λ zs. sum source n (expression source m) (r, zs)) (append_assoc ls (sign_word ∷ rs) rest) ∙ t.2 ∙ u.2)
 
 as_sum_read : (source : List ℕ) (e : Expr) (xs : List Lexeme) → IsRead source Product e xs → IsRead source Sum e xs

@@ -99,7 +99,7 @@ assignment_read source place value_of ps xs equals semicolon h i p s =
       ap (λ zs. by_word (statement_on source (block source n)) (r, zs)) list
           ∙ ap (λ (q : Reads Stmt). q (r, ps ++ (equals ∷ xs ++ semicolon ∷ rest))) (assigns source (block source n) place ps (equals ∷ xs ++ semicolon ∷ rest) p)
           ∙ then_is (by_word (place_on source) (r, ps ++ (equals ∷ xs ++ semicolon ∷ rest))) (λ y. expect w.Assign >> (value source >>= (λ z. expect w.Semicolon >> pure (assignment_of y z)))) place (r - o, equals ∷ xs ++ semicolon ∷ rest)
-              (place_read source place ps p r (r - o) (equals ∷ xs ++ semicolon ∷ rest) (omega (arith, d, nest)))
+          (place_read source place ps p r (r - o) (equals ∷ xs ++ semicolon ∷ rest) (omega (arith, d, nest)))
           ∙ then_is (expect w.Assign (r - o, equals ∷ xs ++ semicolon ∷ rest)) (λ _. value source >>= (λ z. expect w.Semicolon >> pure (assignment_of place z))) equals (r - o, xs ++ semicolon ∷ rest) (expects w.Assign (r - o) equals (xs ++ semicolon ∷ rest) h)
           ∙ value_ends source (λ z. assignment_of place z) value_of xs semicolon (r - o) rest s i (omega (arith, d, nest)),
     ))

@@ -148,7 +148,7 @@ throws_sound source s x _ e h = at_value (tt, s) x (record { front = []; split =
 pub body_nests : (begin : Lexeme) (items : List Stmt) → nesting_of_body (out-StmtForm (block_of begin items).form) ≡ 1 + greatest (map nesting_of items)
 body_nests begin items = ap nesting_of_body (ap out-StmtForm (sym (rolls-Block items)) ∙ out-roll-StmtForm (s.Block items))
 
-first_of : (ms rest : List Lexeme) (x : Lexeme) → first_token (ms ++ x ∷ rest) ≡ first_token (ms ++ x ∷ [])
+pub first_of : (ms rest : List Lexeme) (x : Lexeme) → first_token (ms ++ x ∷ rest) ≡ first_token (ms ++ x ∷ [])
 first_of [] rest x = refl
 first_of (m ∷ ms) rest x = refl
 

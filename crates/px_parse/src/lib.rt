@@ -3,6 +3,7 @@
 
 mod error;
 mod expressions;
+pub mod law;
 mod members;
 mod numbering;
 mod program;
