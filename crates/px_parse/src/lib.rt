@@ -13,3 +13,6 @@ mod tokens;
 
 pub use error::ParseError;
 pub use program::parse;
+
+#[cfg(test)]
+mod tests;
