@@ -40,7 +40,7 @@ factors_turn source (suc m) inner left both s s' result now h e d o g =
     gives_as _ _ result now (ap (λ x. factors_on source (prefixed source m inner) (factors source m inner) left x s) e)
     (after_operation (operation sign.Times (prefixed source m inner) left) (factors source m inner) s s' both result now (o m (omega arith)) (g m (omega arith)))
 
-terms_step : (source : List ℕ) (right : Reads Expr) (more : Expr → Reads Expr) (left : Expr) (x : Word) (op : Sign) → IsSumSign x op → terms_on source right more left x ≡ (operation op right left >>= more)
+pub terms_step : (source : List ℕ) (right : Reads Expr) (more : Expr → Reads Expr) (left : Expr) (x : Word) (op : Sign) → IsSumSign x op → terms_on source right more left x ≡ (operation op right left >>= more)
 terms_step source right more left _ _ plus = refl
 terms_step source right more left _ _ minus = refl
 

@@ -5,3 +5,4 @@ pub mod Grammar
 pub mod Reading
 pub mod View
 pub mod Programs
+pub mod Law

@@ -297,7 +297,7 @@ is_comma word = same_word word w.Comma
 -- a comma and a parameter
 unfoldable pub next_param : List ℕ → Reads Param
 next_param source = do
-  take
+  expect w.Comma
   param source
 
 unfoldable pub some_params : List ℕ → Reads (List Param)

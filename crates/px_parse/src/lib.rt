@@ -3,6 +3,7 @@
 
 mod error;
 mod expressions;
+pub mod law;
 mod members;
 mod numbering;
 mod program;
@@ -12,3 +13,6 @@ mod tokens;
 
 pub use error::ParseError;
 pub use program::parse;
+
+#[cfg(test)]
+mod tests;

@@ -75,7 +75,7 @@ impl Source<'_> {
     fn next_param(&self, tokens: &mut Tokens<'_>) -> Result<Param, ParseError>
         ensures { Gives (spec.next_param self.now.bytes.now (state_of tokens.old)) result (state_of tokens.new) }
     {
-        tokens.take()?;
+        tokens.expect(Word::Comma)?;
         self.param(tokens)
     }
 

@@ -1,6 +1,7 @@
 //! From a text to its program.
-ghost use Rattle.std.specs.Prelude.{◌≡◌, ◌<◌, ◌^◌, length};
-ghost use Rattle.px_parse.specs.Programs.{program_of};
+ghost use Rattle.std.specs.Prelude.{◌≡◌, ◌<◌, ◌^◌, length, IfOk};
+ghost use Rattle.px_lex.specs.declared.tree.Program.{Program};
+ghost use Rattle.px_parse.specs.Programs.{IsProgram, program_of};
 ghost use Rattle.px_parse.specs.Reading.{Finds};
 
 use crate::error::ParseError;
@@ -13,8 +14,7 @@ use std::alloc::Global;
 /// How deep a program may nest.
 const MAX_NESTING: u32 = 100;
 
-/// The program of a text.
-pub fn parse(alloc: Global, bytes: &[u8]) -> Result<Program, ParseError>
+fn read(alloc: Global, bytes: &[u8]) -> Result<Program, ParseError>
     requires { length bytes.now < 2 ^ 31 }
     ensures { Finds (program_of bytes.now) result }
 {
@@ -28,4 +28,13 @@ pub fn parse(alloc: Global, bytes: &[u8]) -> Result<Program, ParseError>
         classes,
         tokens: Items::from_vec(tokens),
     })
+}
+
+/// The program of a text. Without one the answer is `Syntax`, whatever else is wrong with the text.
+pub fn parse(alloc: Global, bytes: &[u8]) -> Result<Program, ParseError>
+    requires { length bytes.now < 2 ^ 31 }
+    ensures found { IfOk result (λ p. IsProgram bytes.now p) }
+    ensures refused { result ≡ Err ParseError.Syntax → (p : Program) → IsProgram bytes.now p → ⊥ }
+{
+    read(alloc, bytes)
 }
