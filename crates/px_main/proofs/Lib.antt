@@ -1,3 +1,4 @@
 pub mod Rests
 pub mod Fields
 pub mod Words
+pub mod Answers

@@ -1,9 +1,9 @@
 -- What a command answers over the bytes of its files: a status, and all that is to be written with it.
-use Rattle.std.specs.Prelude.{ℕ, List, [], ◌∷◌, length, Option, Some, None, Result, Ok, Err, codes, decimal, map, nat_lt, if◌then◌else◌, slice_get, ◌==◌}
+use Rattle.std.specs.Prelude.{◌≡◌, ℕ, List, [], ◌∷◌, length, Option, Some, None, Result, Ok, Err, codes, decimal, map, nat_lt, if◌then◌else◌, slice_get}
 use Rattle.px_lex.specs.declared.tree.Program.{Program}
 use Rattle.px_lex.specs.declared.tree.Class.{Class}
 use Rattle.px_lex.specs.Unbuilt.{unbuilt_line}
-use Rattle.px_parse.specs.Programs.{program_of}
+use Rattle.px_parse.specs.Programs.{IsProgram}
 use Rattle.px_types.specs.declared.checked.Checked.{Checked}
 use Rattle.px_types.specs.declared.checked.Entry.{Entry}
 use Rattle.px_types.specs.declared.program.Known.{Known}
@@ -41,18 +41,20 @@ abbrev pub typed : Program → Option Known → Result Checked Fault
 typed program None = fault 0 Later
 typed program (Some known) = Ok (record { program = program; facts = known.facts; entries = known.entries })
 
-abbrev pub parsed : Option Program → Result Checked Fault
-parsed None = fault 0 Syntax
-parsed (Some program) = typed program (judged program)
+-- A text without unbuilt forms is either no program, or it is the one program that the grammar gives it.
+pub data IsParsed (bytes : List ℕ) (outcome : Result Checked Fault) : Type 0 where
+  ungrammatical : ((p : Program) → IsProgram bytes p → ⊥) → outcome ≡ fault 0 Syntax → IsParsed bytes outcome
+  grammatical : (p : Program) → IsProgram bytes p → outcome ≡ typed p (judged p) → IsParsed bytes outcome
 
-abbrev pub built : List ℕ → Option ℕ → Result Checked Fault
-built bytes None = parsed (program_of bytes)
-built bytes (Some number) = fault number Later
+abbrev pub IsBuilt : List ℕ → Option ℕ → Result Checked Fault → Type 0
+IsBuilt bytes (Some number) outcome = outcome ≡ fault number Later
+IsBuilt bytes None outcome = IsParsed bytes outcome
 
--- the first of these that applies: the file is too long; a form in it isn't built yet; it is no program; it breaks a rule of types
-abbrev pub judged_program : Option (List ℕ) → Result Checked Fault
-judged_program None = fault 0 TooLong
-judged_program (Some bytes) = built bytes (unbuilt_line bytes)
+-- What comes of a program file, of which nothing is kept where it is too long. The first of these applies:
+-- it is too long; a form in it isn't built yet; it is no program; it breaks a rule of types; it is accepted.
+abbrev pub Judges : Option (List ℕ) → Result Checked Fault → Type 0
+Judges None outcome = outcome ≡ fault 0 TooLong
+Judges (Some bytes) outcome = IsBuilt bytes (unbuilt_line bytes) outcome
 
 -- ---- the run
 
@@ -110,18 +112,24 @@ abbrev pub with_program : Result Checked Fault → Option (List ℕ) → Answer
 with_program (Err f) job = refused_program f
 with_program (Ok c) job = with_job c job
 
--- the answer to `run` over what was kept of its two files
-abbrev pub kept_answer : Option (List ℕ) → Option (List ℕ) → Answer
-kept_answer program job = with_program (judged_program program) job
+-- `a` is the answer to `run` over what was kept of its two files
+pub record IsAnswer (program job : Option (List ℕ)) (a : Answer) : Type 0 where
+  pub outcome : Result Checked Fault
+  pub judges : Judges program outcome
+  pub answers : with_program outcome job ≡ a
 
-abbrev pub run_answer : List ℕ → List ℕ → Answer
-run_answer program job = kept_answer (kept max_program program) (kept max_job job)
+-- the same over the files
+abbrev pub RunAnswers : List ℕ → List ℕ → Answer → Type 0
+RunAnswers program job a = IsAnswer (kept max_program program) (kept max_job job) a
 
--- the same as far as the shelf tells the files; a program that is refused needs no job
-abbrev pub without_job : Answer → Option Answer
-without_job a = if a.0 == 5 then Some a else None
+-- What the files allow as the answer, as far as the shelf tells them. A program that is refused needs no job.
+abbrev pub Allows : Option (List ℕ) → Option (List ℕ) → Answer → Type 0
+Allows None job a = Unit {0}
+Allows (Some program) None a = a.0 ≡ 5 → RunAnswers program [] a
+Allows (Some program) (Some job) a = RunAnswers program job a
 
-abbrev pub told_answer : Option (List ℕ) → Option (List ℕ) → Option Answer
-told_answer None job = None
-told_answer (Some program) None = without_job (run_answer program [])
-told_answer (Some program) (Some job) = Some (run_answer program job)
+-- what the files fix as the answer, as far as the shelf tells them
+abbrev pub Fixes : Option (List ℕ) → Option (List ℕ) → Answer → Type 0
+Fixes None job a = ⊥
+Fixes (Some program) None a = (a.0 ≡ 5) × RunAnswers program [] a
+Fixes (Some program) (Some job) a = RunAnswers program job a

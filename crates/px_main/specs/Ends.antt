@@ -1,5 +1,5 @@
 -- How a command ends.
-use Rattle.std.specs.Prelude.{◌≡◌, ◌⊎◌, ℕ, ◌≤◌, List, ◌++◌, length, take, Option, Some, None, IfSome}
+use Rattle.std.specs.Prelude.{◌≡◌, ◌⊎◌, ℕ, ◌≤◌, List, ◌++◌, length, take, Option, Some, None}
 use Rattle.px_outside.specs.Causes.{Rose}
 use Rattle.px_main.specs.Answers.{Answer}
 
@@ -16,18 +16,19 @@ abbrev pub TookAll : Option (List ℕ) → Option (List ℕ) → List ℕ → Ty
 TookAll None now text = Unit {0}
 TookAll (Some old) now text = now ≡ Some (old ++ text)
 
--- `told` is the answer that the files fix, as far as they are told; s and k are the counts of faults of shelf and sink, before and after; `old` and `now` are what the sink took.
-pub record Ends (told : Option Answer) (status s s' k k' : ℕ) (old now : Option (List ℕ)) : Type 0 where
+-- `Allows` says of an answer that the files allow it, and `Fixes` that they fix it, as far as they are told.
+-- s and k are the counts of faults of shelf and sink, before and after; `old` and `now` are what the sink took.
+pub record Ends (Allows Fixes : Answer → Type 0) (status s s' k k' : ℕ) (old now : Option (List ℕ)) : Type 0 where
   -- the whole text was taken
-  pub done : status ≡ 0 → IfSome told (λ a. (a.0 ≡ 0) × TookAll old now a.1)
+  pub done : status ≡ 0 → (text : List ℕ) × Allows (0, text) × TookAll old now text
   -- a file couldn't be read
   pub read : status ≡ 2 → Rose s s' × TookNothing old now
   -- the text couldn't be written
-  pub write : status ≡ 3 → Rose k k' × IfSome told (λ a. (a.0 ≡ 0) × TookFront old now a.1)
+  pub write : status ≡ 3 → Rose k k' × ((text : List ℕ) × Allows (0, text) × TookFront old now text)
   -- there was too little memory
   pub memory : status ≡ 4 → TookNothing old now
   -- the program or the job is refused; where its line couldn't be written the status stays
-  pub refused : 5 ≤ status → IfSome told (λ a. (a.0 ≡ status) × (TookAll old now a.1 ⊎ (Rose k k' × TookFront old now a.1)))
-  -- where nothing failed the status is the one that the files fix, want of memory aside
-  pub complete : ¬ (Rose s s') → ¬ (Rose k k') → IfSome told (λ a. (status ≡ a.0) ⊎ (status ≡ 4))
+  pub refused : 5 ≤ status → (text : List ℕ) × Allows (status, text) × (TookAll old now text ⊎ (Rose k k' × TookFront old now text))
+  -- where nothing failed the status is the one that the files fix, want of memory aside; a refusal doesn't wait for the sink
+  pub complete : ¬ (Rose s s') → (a : Answer) → Fixes a → (¬ (Rose k k') ⊎ (5 ≤ a.0)) → (status ≡ a.0) ⊎ (status ≡ 4)
   pub few : status ≤ 6

@@ -1,10 +1,9 @@
 //! What comes of a program file.
 ghost use Rattle.std.specs.Prelude.{◌≡◌, ◌≤◌, length, IfSome, IfOk};
 ghost use Rattle.std.specs.Option.{option_map};
-ghost use Rattle.px_parse.specs.Programs.{program_of};
 ghost use Rattle.px_types.specs.Programs.{max_fields};
 ghost use Rattle.px_mean.specs.Program.{program_fields};
-ghost use Rattle.px_main.specs.Answers.{judged_program, parsed, max_program};
+ghost use Rattle.px_main.specs.Answers.{IsParsed, Judges, max_program};
 
 use px_lex::first_unbuilt;
 use px_parse::{ParseError, parse};
@@ -32,7 +31,7 @@ pub struct Fault {
 #[tactic(auto, using(crate::proofs::Fields::few_fields))]
 fn parsed_program(alloc: Global, bytes: &[u8]) -> Result<Result<Checked, Fault>, AllocError>
     requires { length bytes.now ≤ max_program }
-    ensures judged { IfOk result (λ judged. parsed (program_of bytes.now) ≡ judged) }
+    ensures judged { IfOk result (λ judged. IsParsed bytes.now judged) }
     ensures few { IfOk result (λ judged. IfOk judged (λ c. length (program_fields c.program) ≤ max_fields)) }
 {
     let line = 0;
@@ -57,7 +56,7 @@ fn parsed_program(alloc: Global, bytes: &[u8]) -> Result<Result<Checked, Fault>,
 /// Judges what was kept of a program file; nothing was where it is too long.
 pub fn judge(alloc: Global, bytes: &Option<Vec<u8>>) -> Result<Result<Checked, Fault>, AllocError>
     requires { IfSome bytes.now (λ bytes. length bytes.items ≤ max_program) }
-    ensures judged { IfOk result (λ judged. judged_program (option_map (λ bytes. bytes.items) bytes.now) ≡ judged) }
+    ensures judged { IfOk result (λ judged. Judges (option_map (λ bytes. bytes.items) bytes.now) judged) }
     ensures few { IfOk result (λ judged. IfOk judged (λ c. length (program_fields c.program) ≤ max_fields)) }
 {
     match bytes {

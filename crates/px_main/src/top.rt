@@ -3,7 +3,7 @@ ghost use Rattle.std.specs.Prelude.{◌≡◌, ◌≢◌, ◌↔◌, ◌≤◌, 
 ghost use Rattle.std.specs.Option.{option_map};
 ghost use Rattle.px_outside.specs.Causes.{Rose};
 ghost use Rattle.px_main.specs.Commands.{command_of};
-ghost use Rattle.px_main.specs.Answers.{told_answer, kept_answer, with_job, refused_program, refused_job, program_code as code_of_program, job_code as code_of_job, max_program, max_job};
+ghost use Rattle.px_main.specs.Answers.{Answer, Allows, Fixes, IsAnswer, with_job, refused_program, refused_job, program_code as code_of_program, job_code as code_of_job, max_program, max_job};
 ghost use Rattle.px_types.specs.Programs.{max_fields};
 ghost use Rattle.px_mean.specs.Program.{program_fields};
 ghost use Rattle.px_main.specs.Ends.{Ends, TookNothing};
@@ -27,7 +27,7 @@ pub fn still<S: Shelf, K: Sink>(alloc: Global, words: &[&str], shelf: &mut S, si
     ensures usage_text { result ≡ 1 → TookNothing (K.taken sink.old) (K.taken sink.new) }
     // Else it ends as the files say.
     ensures command { IfSome (command_of (map (λ w. w.now) words.now)) (λ c.
-        Ends (told_answer (S.holds shelf.old c.program) (S.holds shelf.old c.job)) result
+        Ends (Allows (S.holds shelf.old c.program) (S.holds shelf.old c.job)) (Fixes (S.holds shelf.old c.program) (S.holds shelf.old c.job)) result
         (S.faults shelf.old) (S.faults shelf.new) (K.faults sink.old) (K.faults sink.new) (K.taken sink.old) (K.taken sink.new)) }
 {
     match command(words) {
@@ -117,7 +117,7 @@ fn answer_kept(
 ) -> Result<Prepared, AllocError>
     requires program { IfSome program.now (λ bytes. length bytes.items ≤ max_program) }
     requires job { IfSome job.now (λ bytes. length bytes.items ≤ max_job) }
-    ensures { IfOk result (λ a. kept_answer (option_map (λ v. v.items) program.now) (option_map (λ v. v.items) job.now) ≡ (a.status, a.text.items)) }
+    ensures { IfOk result (λ a. IsAnswer (option_map (λ v. v.items) program.now) (option_map (λ v. v.items) job.now) (a.status, a.text.items)) }
 {
     match judge(alloc, program)? {
         Ok(checked) => answer_job(alloc, &checked, job),
@@ -131,7 +131,8 @@ fn prepare<S: Shelf>(
     job: &str,
     shelf: &mut S,
 ) -> Result<Prepared, Stop>
-    ensures told { IfOk result (λ r. IfSome (told_answer (S.holds shelf.old program.now) (S.holds shelf.old job.now)) (λ a. a ≡ (r.status, r.text.items))) }
+    ensures told { IfOk result (λ r. Allows (S.holds shelf.old program.now) (S.holds shelf.old job.now) (r.status, r.text.items)) }
+    ensures fixed { IfOk result (λ r. (a : Answer) → Fixes (S.holds shelf.old program.now) (S.holds shelf.old job.now) a → a ≡ (r.status, r.text.items)) }
     ensures later { S.faults shelf.old ≤ S.faults shelf.new }
     ensures fault { result ≡ Err Stop.ReadFault → Rose (S.faults shelf.old) (S.faults shelf.new) }
     ensures status { IfOk result (λ r. (r.status ≡ 0) ⊎ ((5 ≤ r.status) × (r.status ≤ 6))) }
@@ -145,7 +146,7 @@ fn prepare<S: Shelf>(
 }
 
 fn run_files<S: Shelf, K: Sink>(alloc: Global, files: Files, shelf: &mut S, sink: &mut K) -> u8
-    ensures ends { Ends (told_answer (S.holds shelf.old files.entry.program.now) (S.holds shelf.old files.entry.job.now)) result
+    ensures ends { Ends (Allows (S.holds shelf.old files.entry.program.now) (S.holds shelf.old files.entry.job.now)) (Fixes (S.holds shelf.old files.entry.program.now) (S.holds shelf.old files.entry.job.now)) result
         (S.faults shelf.old) (S.faults shelf.new) (K.faults sink.old) (K.faults sink.new) (K.taken sink.old) (K.taken sink.new) }
     ensures not_usage { result ≢ 1 }
 {
