@@ -1,5 +1,5 @@
 -- What spells an expression is read, where there is room.
-use Rattle.std.proofs.Common.{◌≡◌, ℕ, zero, suc, ◌+◌, ◌-◌, ◌≤◌, ◌<◌, max, Bool, true, false, if◌then◌else◌, List, [], ◌∷◌, ◌++◌, Option, Some, None, refl, sym, ap, ◌∙◌, append_assoc, subst, arith}
+use Rattle.std.proofs.Common.{◌≡◌, ℕ, zero, suc, ◌+◌, ◌-◌, ◌≤◌, ◌<◌, max, true, if◌then◌else◌, List, [], ◌∷◌, ◌++◌, Some, None, refl, ap, ◌∙◌, append_assoc, arith}
 use Rattle.px_lex.specs.declared.lexeme.Lexeme.{Lexeme}
 use Rattle.px_lex.specs.declared.lexeme.Word.{Word}
 use Rattle.px_lex.specs.declared.lexeme.Word.TheVariants as w

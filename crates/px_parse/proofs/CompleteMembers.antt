@@ -1,5 +1,5 @@
 -- What spells a program is read, where there is room.
-use Rattle.std.proofs.Common.{◌≡◌, ℕ, zero, suc, ◌+◌, ◌-◌, ◌≤◌, ◌<◌, max, Bool, true, false, not, if◌then◌else◌, List, [], ◌∷◌, ◌++◌, length, map, Option, Some, None, refl, sym, ap, ◌∙◌, append_assoc, subst, arith, length-append, codes}
+use Rattle.std.proofs.Common.{◌≡◌, ℕ, suc, ◌+◌, ◌-◌, ◌≤◌, true, if◌then◌else◌, List, [], ◌∷◌, ◌++◌, length, map, Option, Some, None, refl, sym, ap, ◌∙◌, append_assoc, arith, length-append, codes}
 use Rattle.std.proofs.lemmas.List.{append-nil}
 use Rattle.std.specs.Str.{bytes_eq}
 use Rattle.std.proofs.lemmas.Slice.Eq.{bytes_eq-Decides}
@@ -18,9 +18,9 @@ use Rattle.px_parse.specs.Trees.{first_token, type_of, param_of, block_of, field
 use Rattle.px_parse.specs.Nesting.{greatest, nesting_of, nesting_of_member, nesting_of_class}
 use Rattle.px_parse.specs.Grammar as g
 use Rattle.px_parse.specs.Grammar.{SpellsItems, SpellsAccess, SpellsResult, SpellsMoreParams, SpellsParams, SpellsThrows, SpellsMember, SpellsMembers, SpellsPublic, SpellsClass, SpellsProgram}
-use Rattle.px_parse.specs.Reading.{State, Read, Reads, and_then, ◌>>=◌, ◌>>◌, pure, refuse, same_word, next_word, by_word, take, expect, repeated, is_no_brace, is_comma, all_until_brace, access_on, result_on, param, next_param, some_params, params_on, thrown, throws_on, body, method, member_on, member_from, member, public_on, class, program, whole_of, whole}
+use Rattle.px_parse.specs.Reading.{Read, Reads, ◌>>=◌, ◌>>◌, pure, refuse, same_word, next_word, by_word, take, expect, repeated, is_no_brace, is_comma, all_until_brace, access_on, result_on, param, next_param, some_params, params_on, thrown, throws_on, body, method, member_on, member_from, member, public_on, class, whole_of, whole}
 use Rattle.px_parse.proofs.Turns.{repeated_ends, repeated_turn}
-use Rattle.px_parse.proofs.Complete.{then_is, takes, expects, same_itself}
+use Rattle.px_parse.proofs.Complete.{then_is, takes, expects}
 use Rattle.px_parse.proofs.CompleteStatements.{block_read, items_read}
 use Rattle.px_parse.proofs.SoundMembers.{first_of, body_nests}
 

@@ -1,5 +1,5 @@
 -- What spells a statement is read, where there is room.
-use Rattle.std.proofs.Common.{◌≡◌, ℕ, zero, suc, ◌+◌, ◌-◌, ◌≤◌, ◌<◌, max, Bool, true, false, not, if◌then◌else◌, List, [], ◌∷◌, ◌++◌, length, map, Option, Some, None, refl, sym, ap, ◌∙◌, append_assoc, subst, arith, length-append}
+use Rattle.std.proofs.Common.{◌≡◌, ℕ, zero, suc, ◌+◌, ◌-◌, ◌≤◌, ◌<◌, true, List, [], ◌∷◌, ◌++◌, length, map, Some, None, refl, sym, ap, ◌∙◌, append_assoc, arith, length-append}
 use Rattle.std.proofs.lemmas.List.{append-nil}
 use Rattle.px_lex.specs.declared.lexeme.Lexeme.{Lexeme}
 use Rattle.px_lex.specs.declared.lexeme.Word.{Word}
@@ -10,7 +10,7 @@ use Rattle.px_parse.specs.Trees.{name_of, type_of, this_of, variable_of, field_o
 use Rattle.px_parse.specs.Nesting.{Weight, weight_of, greatest, nesting_of_value, nesting_of}
 use Rattle.px_parse.specs.Grammar as g
 use Rattle.px_parse.specs.Grammar.{Level, Sum, SpellsExpression, SpellsPlace, SpellsStatement, SpellsItem, SpellsItems}
-use Rattle.px_parse.specs.Reading.{State, Read, Reads, and_then, ◌>>=◌, ◌>>◌, pure, same_word, next_word, by_word, take, expect, spend, within, value, place_on, assignment, returned_on, local, Blocks, statement_on, statement, item_on, repeated, is_no_brace, all_until_brace, braced, block}
+use Rattle.px_parse.specs.Reading.{Read, Reads, ◌>>=◌, ◌>>◌, pure, same_word, next_word, by_word, take, expect, spend, value, place_on, assignment, returned_on, local, Blocks, statement_on, statement, item_on, repeated, is_no_brace, all_until_brace, braced, block}
 use Rattle.px_parse.proofs.Nestings.{this_weighs, name_weighs, field_weighs, nesting_of_its_form, block_nests, empty_nests, local_nests, assign_nests, return_nests, return_value_nests}
 use Rattle.px_parse.proofs.Turns.{repeated_ends, repeated_turn}
 use Rattle.px_parse.proofs.Complete.{then_is, takes, expects, spends, ends_at, within_is, Stops, value_read}

@@ -1,15 +1,15 @@
 -- The nesting of each form.
-use Rattle.std.proofs.Common.{◌≡◌, ℕ, ◌+◌, ◌≤◌, ◌<◌, max, Bool, List, [], ◌∷◌, ◌++◌, map, reverse, Option, Some, None, refl, sym, ap, ◌∙◌, arith}
+use Rattle.std.proofs.Common.{◌≡◌, ℕ, ◌+◌, ◌≤◌, max, Bool, List, [], ◌∷◌, ◌++◌, map, reverse, Some, None, refl, sym, ap, ◌∙◌, arith}
 use Rattle.std.proofs.lemmas.List.{reverse-append}
 use Rattle.px_lex.specs.declared.tree.Sign.{Sign}
 use Rattle.px_lex.specs.declared.tree.Name.{Name as NameData}
 use Rattle.px_lex.specs.declared.tree.TypeName.{TypeName}
-use Rattle.px_lex.specs.declared.tree.Expr.{Expr, fold-Expr, fold_out-Expr}
+use Rattle.px_lex.specs.declared.tree.Expr.{Expr, fold_out-Expr}
 use Rattle.px_lex.specs.declared.tree.ExprForm.{ExprForm, ExprForm-F, fold-ExprForm, fold-roll-ExprForm, roll-ExprForm, map-ExprForm}
 use Rattle.px_lex.specs.declared.tree.ExprForm.TheVariants.{Number, This, Name, Group, Field, Prefix, Binary, rolls-Number, rolls-This, rolls-Name, rolls-Group, rolls-Field, rolls-Prefix, rolls-Binary}
 use Rattle.px_lex.specs.declared.tree.ExprForm.TheOpen.{ExprForm-F as e}
-use Rattle.px_lex.specs.declared.tree.Stmt.{Stmt, fold-Stmt, fold_out-Stmt}
-use Rattle.px_lex.specs.declared.tree.StmtForm.{StmtForm, StmtForm-F, fold-StmtForm, fold-roll-StmtForm, roll-StmtForm, map-StmtForm}
+use Rattle.px_lex.specs.declared.tree.Stmt.{Stmt, fold_out-Stmt}
+use Rattle.px_lex.specs.declared.tree.StmtForm.{StmtForm, StmtForm-F, fold-roll-StmtForm, roll-StmtForm, map-StmtForm}
 use Rattle.px_lex.specs.declared.tree.StmtForm.TheVariants.{Block, Empty, Local, Assign, Return, rolls-Block, rolls-Empty, rolls-Local, rolls-Assign, rolls-Return}
 use Rattle.px_lex.specs.declared.tree.StmtForm.TheOpen.{StmtForm-F as s}
 use Rattle.px_parse.specs.Nesting.{Weight, weight_of_form, weight_of, greatest, nesting_of_value, nesting_of_form, nesting_of, nesting_of_statement_form}

@@ -1,15 +1,15 @@
 -- The numbering of each form.
-use Rattle.std.proofs.Common.{◌≡◌, ℕ, ◌+◌, Bool, List, [], ◌∷◌, ◌++◌, map, reverse, Option, refl, sym, ap, ◌∙◌, append_assoc}
+use Rattle.std.proofs.Common.{◌≡◌, ℕ, ◌+◌, Bool, List, [], ◌∷◌, ◌++◌, map, reverse, Option, sym, ap, ◌∙◌, append_assoc}
 use Rattle.std.proofs.lemmas.List.{append-nil, reverse-append, reverse-reverse}
 use Rattle.px_lex.specs.declared.tree.Sign.{Sign}
 use Rattle.px_lex.specs.declared.tree.Name.{Name as NameData}
 use Rattle.px_lex.specs.declared.tree.TypeName.{TypeName}
-use Rattle.px_lex.specs.declared.tree.Expr.{Expr, fold-Expr, fold_out-Expr}
-use Rattle.px_lex.specs.declared.tree.ExprForm.{ExprForm, ExprForm-F, fold-ExprForm, fold-roll-ExprForm, roll-ExprForm, map-ExprForm}
+use Rattle.px_lex.specs.declared.tree.Expr.{Expr, fold_out-Expr}
+use Rattle.px_lex.specs.declared.tree.ExprForm.{ExprForm, ExprForm-F, fold-roll-ExprForm, roll-ExprForm, map-ExprForm}
 use Rattle.px_lex.specs.declared.tree.ExprForm.TheVariants.{Number, This, Name, Group, Field, Prefix, Binary, rolls-Number, rolls-This, rolls-Name, rolls-Group, rolls-Field, rolls-Prefix, rolls-Binary}
 use Rattle.px_lex.specs.declared.tree.ExprForm.TheOpen.{ExprForm-F as e}
-use Rattle.px_lex.specs.declared.tree.Stmt.{Stmt, fold-Stmt, fold_out-Stmt}
-use Rattle.px_lex.specs.declared.tree.StmtForm.{StmtForm, StmtForm-F, fold-StmtForm, fold-roll-StmtForm, roll-StmtForm, map-StmtForm}
+use Rattle.px_lex.specs.declared.tree.Stmt.{Stmt, fold_out-Stmt}
+use Rattle.px_lex.specs.declared.tree.StmtForm.{StmtForm, StmtForm-F, fold-roll-StmtForm, roll-StmtForm, map-StmtForm}
 use Rattle.px_lex.specs.declared.tree.StmtForm.TheVariants.{Block, Empty, Local, Assign, Return, rolls-Block, rolls-Empty, rolls-Local, rolls-Assign, rolls-Return}
 use Rattle.px_lex.specs.declared.tree.StmtForm.TheOpen.{StmtForm-F as s}
 use Rattle.px_parse.specs.Numbering.{Numbering, ◌>>=◌, pure, fresh, in_order, number_expression_form, number_expression, numbered_expression, numbered_expression_form, number_returned, number_statement_form, number_statement, numbered_statement, numbered_statement_form}

@@ -1,8 +1,7 @@
 -- A text's program is what is read.
-use Rattle.std.proofs.Common.{◌≡◌, ℕ, ◌≤◌, List, [], ◌∷◌, Option, Some, None, Result, Ok, Err, IfOk, option_map, refl, sym, ap, ◌∙◌, subst}
+use Rattle.std.proofs.Common.{◌≡◌, ℕ, List, [], ◌∷◌, Option, Some, None, Result, Ok, Err, IfOk, option_map, refl, sym, ap, ◌∙◌, subst}
 use Rattle.px_lex.specs.Cutting.{tokens_of}
 use Rattle.px_lex.specs.Lexemes.{lexemes_of}
-use Rattle.px_lex.specs.declared.lexeme.Lexeme.{Lexeme}
 use Rattle.px_lex.specs.declared.tree.Class.{Class}
 use Rattle.px_lex.specs.declared.tree.Program.{Program}
 use Rattle.px_parse.specs.declared.error.ParseError.{ParseError}

@@ -1,5 +1,5 @@
 -- What is read of an expression is spelled so, and nests no deeper than the room.
-use Rattle.std.proofs.Common.{◌≡◌, ℕ, zero, suc, ◌+◌, ◌≤◌, max, Bool, true, false, if◌then◌else◌, List, [], ◌∷◌, ◌++◌, Option, Some, None, refl, sym, ap, ◌∙◌, append_assoc, subst, arith, rules}
+use Rattle.std.proofs.Common.{◌≡◌, ℕ, zero, suc, ◌+◌, ◌≤◌, Bool, true, false, if◌then◌else◌, List, [], ◌∷◌, ◌++◌, Some, None, refl, sym, ap, ◌∙◌, append_assoc, subst, arith, rules}
 use denote.Enum.Bare.{same_true}
 use Rattle.px_lex.specs.contracts.lexeme.Word.{the_type}
 use Rattle.px_lex.specs.declared.lexeme.Lexeme.{Lexeme}

@@ -1,5 +1,5 @@
 -- What is read of a program is spelled so, and nests no deeper than the room.
-use Rattle.std.proofs.Common.{◌≡◌, ℕ, zero, suc, ◌+◌, ◌≤◌, max, Bool, true, false, if◌then◌else◌, List, [], ◌∷◌, ◌++◌, length, map, Option, Some, None, refl, sym, ap, ◌∙◌, append_assoc, subst, arith, codes}
+use Rattle.std.proofs.Common.{◌≡◌, ℕ, suc, ◌+◌, ◌≤◌, Bool, true, false, if◌then◌else◌, List, [], ◌∷◌, ◌++◌, length, map, Option, Some, None, refl, sym, ap, ◌∙◌, subst, arith, codes}
 use Rattle.std.specs.Str.{bytes_eq}
 use Rattle.std.proofs.lemmas.Slice.Eq.{bytes_eq-Decides}
 use Rattle.px_lex.specs.Lexemes.{spelled}
@@ -11,8 +11,8 @@ use Rattle.px_lex.specs.declared.tree.Access.TheVariants.{Public, Private, Plain
 use Rattle.px_lex.specs.declared.tree.TypeName.{TypeName}
 use Rattle.px_lex.specs.declared.tree.Param.{Param}
 use Rattle.px_lex.specs.declared.tree.Stmt.{Stmt}
-use Rattle.px_lex.specs.declared.tree.StmtForm.{StmtForm, StmtForm-F, out-StmtForm, out-roll-StmtForm}
-use Rattle.px_lex.specs.declared.tree.StmtForm.TheVariants.{Block, rolls-Block}
+use Rattle.px_lex.specs.declared.tree.StmtForm.{out-StmtForm, out-roll-StmtForm}
+use Rattle.px_lex.specs.declared.tree.StmtForm.TheVariants.{rolls-Block}
 use Rattle.px_lex.specs.declared.tree.StmtForm.TheOpen.{StmtForm-F as s}
 use Rattle.px_lex.specs.declared.tree.Member.{Member}
 use Rattle.px_lex.specs.declared.tree.Class.{Class}
@@ -22,7 +22,7 @@ use Rattle.px_parse.specs.Grammar as g
 use Rattle.px_parse.specs.Grammar.{SpellsItems, SpellsAccess, SpellsResult, SpellsMoreParams, SpellsParams, SpellsThrows, SpellsMember, SpellsMembers, SpellsPublic, SpellsClass, SpellsProgram}
 use Rattle.px_parse.specs.Reading.{State, Read, Reads, and_then, ◌>>=◌, ◌>>◌, pure, refuse, next_word, by_word, take, expect, repeated, is_no_brace, is_comma, all_until_brace, access_on, result_on, param, next_param, some_params, params_on, thrown, throws_on, body, method, member_on, member_from, member, public_on, class, program, whole_of, whole}
 use Rattle.px_parse.proofs.Sound.{some_is, bind_ok, take_ok, expect_ok, word_is}
-use Rattle.px_parse.proofs.SoundStatements.{Split, one, join, along, Takes, at_value, TakesMore, repeated_sound, all_sound, TakesBlock, block_sound}
+use Rattle.px_parse.proofs.SoundStatements.{Split, one, join, Takes, at_value, repeated_sound, all_sound, block_sound}
 
 -- what has no nesting of its own
 pub flat : {A : Type 0} → A → ℕ

@@ -1,5 +1,5 @@
 -- What is read of a statement is spelled so, and nests no deeper than the room.
-use Rattle.std.proofs.Common.{◌≡◌, ℕ, zero, suc, ◌+◌, ◌≤◌, max, Bool, true, false, if◌then◌else◌, List, [], ◌∷◌, ◌++◌, length, map, Option, Some, None, refl, sym, ap, ◌∙◌, append_assoc, subst, arith}
+use Rattle.std.proofs.Common.{◌≡◌, ℕ, zero, suc, ◌+◌, ◌≤◌, Bool, true, false, if◌then◌else◌, List, [], ◌∷◌, ◌++◌, length, map, Some, None, refl, sym, ap, ◌∙◌, append_assoc, subst, arith}
 use Rattle.std.proofs.lemmas.List.{append-nil}
 use Rattle.px_lex.specs.declared.lexeme.Lexeme.{Lexeme}
 use Rattle.px_lex.specs.declared.lexeme.Word.{Word}
@@ -10,9 +10,9 @@ use Rattle.px_parse.specs.Trees.{name_of, type_of, this_of, variable_of, field_o
 use Rattle.px_parse.specs.Nesting.{Weight, weight_of, greatest, nesting_of_value, nesting_of}
 use Rattle.px_parse.specs.Grammar as g
 use Rattle.px_parse.specs.Grammar.{Sum, SpellsExpression, SpellsPlace, SpellsStatement, SpellsItem, SpellsItems}
-use Rattle.px_parse.specs.Reading.{State, Read, Reads, and_then, ◌>>=◌, ◌>>◌, pure, next_word, by_word, take, expect, spend, within, value, place_on, assignment, returned_on, local, Blocks, statement_on, statement, item_on, repeated, is_no_brace, all_until_brace, braced, block}
+use Rattle.px_parse.specs.Reading.{State, Read, Reads, ◌>>=◌, ◌>>◌, pure, next_word, by_word, take, expect, spend, value, place_on, assignment, returned_on, local, Blocks, statement_on, statement, item_on, repeated, is_no_brace, all_until_brace, braced, block}
 use Rattle.px_parse.proofs.Nestings.{this_weighs, name_weighs, field_weighs, nesting_of_its_form, block_nests, empty_nests, local_nests, assign_nests, return_nests, return_value_nests}
-use Rattle.px_parse.proofs.Sound.{some_is, bind_ok, take_ok, expect_ok, spend_ok, Within, within_ok, word_is, TakesValue, value_sound}
+use Rattle.px_parse.proofs.Sound.{some_is, bind_ok, take_ok, expect_ok, spend_ok, within_ok, word_is, value_sound}
 
 -- ---- a list, and its front and rest
 

@@ -1,10 +1,10 @@
 -- The nesting of a program: at each token the blocks, statements, expressions and prefixes that it
 -- stands in, and the operators and dots before it in the expressions that it stands in; the greatest of these.
-use Rattle.std.specs.Prelude.{ℕ, ◌+◌, max, List, [], ◌∷◌, Option, Some, None, map}
-use Rattle.px_lex.specs.declared.tree.Expr.{Expr, Expr-F, fold-Expr}
+use Rattle.std.specs.Prelude.{ℕ, ◌+◌, max, List, [], ◌∷◌, Some, None, map}
+use Rattle.px_lex.specs.declared.tree.Expr.{Expr, fold-Expr}
 use Rattle.px_lex.specs.declared.tree.ExprForm.{ExprForm-F}
 use Rattle.px_lex.specs.declared.tree.ExprForm.TheOpen.{ExprForm-F as e}
-use Rattle.px_lex.specs.declared.tree.Stmt.{Stmt, Stmt-F, fold-Stmt}
+use Rattle.px_lex.specs.declared.tree.Stmt.{Stmt, fold-Stmt}
 use Rattle.px_lex.specs.declared.tree.StmtForm.{StmtForm, StmtForm-F, fold-StmtForm, out-StmtForm}
 use Rattle.px_lex.specs.declared.tree.StmtForm.TheOpen.{StmtForm-F as s}
 use Rattle.px_lex.specs.declared.tree.Member.{Member}

@@ -1,5 +1,5 @@
 -- The nodes of a tree, each from the lexemes that it begins with. All numbers `id` are 0.
-use Rattle.std.specs.Prelude.{ℕ, ◌-◌, ◌==◌, ◌||◌, Bool, List, [], ◌∷◌, Option, Some, None, length, take, slice_index, if◌then◌else◌}
+use Rattle.std.specs.Prelude.{ℕ, ◌-◌, ◌==◌, ◌||◌, Bool, List, [], ◌∷◌, Option, length, take, slice_index, if◌then◌else◌}
 use Rattle.px_lex.specs.declared.lexeme.Lexeme.{Lexeme}
 use Rattle.px_lex.specs.declared.tree.Access.{Access}
 use Rattle.px_lex.specs.declared.tree.Base.TheVariants.{Long}

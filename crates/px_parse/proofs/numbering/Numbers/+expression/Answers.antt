@@ -1,6 +1,5 @@
 use Rattle.std.proofs.Common.{ap, ◌∙◌}
-use Rattle.px_lex.specs.declared.tree.Expr.{Expr}
-use Rattle.px_lex.specs.declared.tree.ExprForm.TheVariants.{Number, This, Name, Group, Field, Prefix, Binary}
+use Rattle.px_lex.specs.declared.tree.ExprForm.TheVariants.{Group, Field, Prefix, Binary}
 use Rattle.px_parse.specs.Numbering.{numbered_expression, numbered_expression_form}
 use Rattle.px_parse.proofs.Numbers.{of_number, of_this, of_name, of_group, of_field, of_prefix, of_binary, no_part, one_part, two_parts, an_expression}
 use Rattle.px_parse.proofs.numbering.Numbers.+expression.Goals as goal

@@ -1,5 +1,5 @@
-use Rattle.std.proofs.Common.{◌≡◌, ◌+◌, ◌≤◌, map, sym, ap, ◌∙◌, arith}
-use Rattle.px_lex.specs.declared.tree.StmtForm.TheVariants.{Block, Empty, Local, Assign, Return}
+use Rattle.std.proofs.Common.{map, ap, ◌∙◌, arith}
+use Rattle.px_lex.specs.declared.tree.StmtForm.TheVariants.{Block, Local, Assign, Return}
 use Rattle.px_parse.specs.Nesting.{greatest, nesting_of, nesting_of_statement_form}
 use Rattle.px_parse.specs.Numbering.{in_order, number_returned, numbered_expression, numbered_statement, numbered_statement_form}
 use Rattle.px_parse.proofs.Nestings.{nesting_of_its_form, block_nests, greatest_reverse, greatest_last}

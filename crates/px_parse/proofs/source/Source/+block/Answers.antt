@@ -1,5 +1,5 @@
 use Rattle.std.proofs.Common.{◌+◌, ◌-◌, length, not, sym, ap, ◌∙◌, arith}
-use Rattle.px_parse.specs.Reading.{by_word, item_on, block, repeated, is_no_brace}
+use Rattle.px_parse.specs.Reading.{by_word, item_on, block, is_no_brace}
 use Rattle.px_parse.specs.View.{state_of}
 use Rattle.px_parse.proofs.Turns.{repeated_ends, repeated_done, repeated_step, repeated_turn, exits, on_exit}
 use Rattle.px_parse.proofs.source.Source.+block.Goals as goal

@@ -1,4 +1,4 @@
-use Rattle.std.proofs.Common.{◌≡◌, ◌<◌, ◌-◌, ◌*◌, ◌+◌, ℕ, length}
+use Rattle.std.proofs.Common.{◌≡◌, ◌<◌, ◌-◌, ◌*◌, ◌+◌, ℕ}
 use Rattle.px_parse.specs.Reading.{repeated, is_no_brace, all_until_brace, by_word, item_on, block}
 use Rattle.px_parse.specs.View.{state_of}
 use Rattle.px_parse.proofs.source.Source.+block.Given as goal

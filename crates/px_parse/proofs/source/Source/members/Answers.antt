@@ -1,5 +1,5 @@
 use Rattle.std.proofs.Common.{◌+◌, ◌-◌, length, not, sym, ap, ◌∙◌, arith}
-use Rattle.px_parse.specs.Reading.{member, repeated, is_no_brace}
+use Rattle.px_parse.specs.Reading.{member, is_no_brace}
 use Rattle.px_parse.specs.View.{state_of}
 use Rattle.px_parse.proofs.Turns.{repeated_ends, repeated_done, repeated_step, repeated_turn, exits}
 use Rattle.px_parse.proofs.source.Source.members.Goals as goal

@@ -1,5 +1,5 @@
 use Rattle.std.proofs.Common.{◌+◌, ◌-◌, length, sym, ◌∙◌, arith}
-use Rattle.px_parse.specs.Reading.{next_param, repeated, is_comma}
+use Rattle.px_parse.specs.Reading.{next_param, is_comma}
 use Rattle.px_parse.specs.View.{state_of}
 use Rattle.px_parse.proofs.Turns.{repeated_ends, repeated_done, repeated_step, repeated_turn, exits}
 use Rattle.px_parse.proofs.source.Source.some_params.Goals as goal
