@@ -5,6 +5,8 @@ mod header;
 mod heap;
 mod object;
 mod op;
+#[cfg(test)]
+mod tests;
 mod text;
 mod thrown;
 mod ty;
