@@ -6,6 +6,8 @@ mod files;
 mod judge;
 mod members;
 mod run;
+#[cfg(test)]
+mod tests;
 mod top;
 
 use crate::top::still;

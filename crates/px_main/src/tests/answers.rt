@@ -1,0 +1,194 @@
+//! What `run` answers over whole files.
+use super::{JOB, PROGRAM, TEXT, run, sink};
+use std::alloc::Global;
+use std::process::Abort;
+use std::test::Fail;
+
+// What it shows, the program, the job, the status, the text.
+type Case = (&'static str, &'static str, &'static str, u8, &'static str);
+
+const DONE: [Case; 6] = [
+    ("sums wrap round", PROGRAM, JOB, 0, TEXT),
+    (
+        "no member and no call",
+        "class Main {\n}",
+        "",
+        0,
+        "calls\ntables\nheaps\nheap 1\n0 Main\ndone\n",
+    ),
+    (
+        "fields in the order of the file, at zero",
+        "class Main { long b; public void f() { } private long a; }",
+        "# no call\n\n",
+        0,
+        "calls\ntables\nheaps\nheap 1\n0 Main 0 0\ndone\n",
+    ),
+    (
+        "a void method replies void, and what it wrote stays",
+        "class Main { long a; long b; public void set(long x, long y) { this.a = x; b = a - y; } public long sum() { return a + b; } }",
+        "call 1 set 5 7\ncall 1 sum\n",
+        0,
+        "calls\ncall 1 1 void\ncall 1 2 3\ntables\nheaps\nheap 1\n0 Main 5 -2\ndone\n",
+    ),
+    (
+        "products before sums, and from the left",
+        "class Main { public long f(long a) { return a - 2 - 3 * a + -(a - 1); } }",
+        "call 1 f 10",
+        0,
+        "calls\ncall 1 1 -31\ntables\nheaps\nheap 1\n0 Main\ndone\n",
+    ),
+    (
+        "ints wrap round at 32 bits, longs at 64",
+        "class Main { public long a() { return 2147483647 + 1; } public long b() { return 2147483647 + 1L; } }",
+        "call 1 a\ncall 1 b\n",
+        0,
+        "calls\ncall 1 1 -2147483648\ncall 1 2 2147483648\ntables\nheaps\nheap 1\n0 Main\ndone\n",
+    ),
+];
+
+const PROGRAM_REFUSED: [Case; 6] = [
+    (
+        "a form that isn't built",
+        "class Main {\n  public void f() {\n    if (true) { }\n  }\n}\n",
+        "",
+        5,
+        "program 3 Later\n",
+    ),
+    (
+        "a name that isn't declared",
+        "class Main { void f() { x = 1; } }",
+        "",
+        5,
+        "program 0 Later\n",
+    ),
+    (
+        "a class that isn't closed",
+        "class Main {",
+        "",
+        5,
+        "program 0 Syntax\n",
+    ),
+    ("an empty file", "", "", 5, "program 0 Syntax\n"),
+    (
+        "a form that isn't built, in no program",
+        "class Main {\n  while\n",
+        "",
+        5,
+        "program 2 Later\n",
+    ),
+    (
+        "a program before its job",
+        "class Main {",
+        "nothing",
+        5,
+        "program 0 Syntax\n",
+    ),
+];
+
+const JOB_REFUSED: [Case; 10] = [
+    (
+        "a line that isn't built",
+        PROGRAM,
+        "row t 1",
+        6,
+        "job 1 Later\n",
+    ),
+    (
+        "an unknown entry",
+        PROGRAM,
+        "call 1 sub 4",
+        6,
+        "job 1 J10\n",
+    ),
+    (
+        "an argument too few",
+        PROGRAM,
+        "call 1 add",
+        6,
+        "job 1 J11\n",
+    ),
+    (
+        "an argument too many",
+        PROGRAM,
+        "call 1 add 4 4",
+        6,
+        "job 1 J11\n",
+    ),
+    (
+        "an unknown session",
+        PROGRAM,
+        "call 2 add 4",
+        6,
+        "job 1 J5\n",
+    ),
+    (
+        "a number past its range",
+        PROGRAM,
+        "call 1 add 9223372036854775808",
+        6,
+        "job 1 J12\n",
+    ),
+    (
+        "a text for a number",
+        PROGRAM,
+        "call 1 add \"x\"",
+        6,
+        "job 1 J12\n",
+    ),
+    ("no value", PROGRAM, "call 1 add x", 6, "job 1 J1\n"),
+    (
+        "the first line that is wrong",
+        PROGRAM,
+        "call 1 add 4\n# a comment\ncall 1 add\ncall 2 add 4\n",
+        6,
+        "job 3 J11\n",
+    ),
+    (
+        "a method that is no entry",
+        "class Main { private void f() { } }",
+        "call 1 f",
+        6,
+        "job 1 J10\n",
+    ),
+];
+
+fn all(rt: &impl Abort, alloc: Global, cases: &[Case]) -> Result<(), Fail> {
+    for (name, program, job, status, text) in cases {
+        let mut sink = sink(alloc);
+        let found = run(alloc, program.as_bytes(), job.as_bytes(), &mut sink)?;
+        assert_eq!(rt; found, *status, "{name}");
+        assert_eq!(rt; sink.taken(), text.as_bytes(), "{name}");
+    }
+    Ok(())
+}
+
+#[test]
+fn jobs_are_run(rt: HostRuntime) -> Result<(), Fail> {
+    all(&rt, rt.alloc(), &DONE)
+}
+
+#[test]
+fn programs_are_refused(rt: HostRuntime) -> Result<(), Fail> {
+    all(&rt, rt.alloc(), &PROGRAM_REFUSED)
+}
+
+#[test]
+fn jobs_are_refused(rt: HostRuntime) -> Result<(), Fail> {
+    all(&rt, rt.alloc(), &JOB_REFUSED)
+}
+
+#[test]
+fn a_program_has_at_most_a_mebibyte(rt: HostRuntime) -> Result<(), Fail> {
+    let alloc = rt.alloc();
+    for (length, text) in [
+        (1_048_576, "program 0 Syntax\n"),
+        (1_048_577, "program 0 TooLong\n"),
+    ] {
+        let program = vec![in alloc; b' '; length]?;
+        let mut sink = sink(alloc);
+        let status = run(alloc, program.as_slice(), b"", &mut sink)?;
+        assert_eq!(rt; status, 5);
+        assert_eq!(rt; sink.taken(), text.as_bytes());
+    }
+    Ok(())
+}
