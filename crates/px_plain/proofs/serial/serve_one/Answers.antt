@@ -24,8 +24,8 @@ pub returns-clause-few : goal.returns-clause-few
 returns-clause-few c =
     let there = slice_get_read c.args.sessions.now.items c.len.result (c.from-number.result - 1) c.index_mut-session.result.now (c.len.ensures ∙ c.args.sessions.now.ok.0) (omega arith) c.index_mut-session.ensures.value in
     λ n a.
-        let few = at_most_get n c.args.sessions.now.items (c.from-number.result - 1) c.index_mut-session.result.now there a in
-        at_most_set (n + 1) c.args.sessions.now.items (c.from-number.result - 1) c.call_by.new.session (omega (arith, few, c.in_ok-one.ensures.calls)) (at_most_more n (n + 1) c.args.sessions.now.items (omega arith) a)
+    let few = at_most_get n c.args.sessions.now.items (c.from-number.result - 1) c.index_mut-session.result.now there a in
+    at_most_set (n + 1) c.args.sessions.now.items (c.from-number.result - 1) c.call_by.new.session (omega (arith, few, c.in_ok-one.ensures.calls)) (at_most_more n (n + 1) c.args.sessions.now.items (omega arith) a)
 
 pub returns-clause-done : goal.returns-clause-done
 returns-clause-done c =
