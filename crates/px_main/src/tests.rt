@@ -4,7 +4,7 @@ mod damaged;
 mod outside;
 
 use crate::top::still;
-use px_outside::{File, MemoryShelf, MemorySink};
+use px_outside::{File, MemoryShelf, MemorySink, Shelf, Sink};
 use std::alloc::{AllocError, Global};
 
 const WORDS: [&str; 3] = ["run", "p", "j"];
@@ -45,11 +45,11 @@ fn shelf(
 }
 
 // The status of a command, unless there was too little memory.
-fn status(
+fn status<S: Shelf, T: Sink>(
     alloc: Global,
     words: &[&str],
-    shelf: &mut MemoryShelf,
-    sink: &mut MemorySink,
+    shelf: &mut S,
+    sink: &mut T,
 ) -> Result<u8, AllocError> {
     match still(alloc, words, shelf, sink) {
         4 => Err(AllocError),

@@ -1,6 +1,8 @@
 //! Words that are no command, and an outside that fails.
 use super::{JOB, PROGRAM, TEXT, WORDS, shelf, sink, status};
-use px_outside::MemorySink;
+use px_outside::{MemorySink, StdShelf, StdSink};
+use std::fmt::Display;
+use std::io::{self, ErrorKind};
 use std::test::Fail;
 
 #[test]
@@ -79,5 +81,44 @@ fn a_write_may_fail(rt: HostRuntime) -> Result<(), Fail> {
         assert_eq!(rt; status, want);
         assert_eq!(rt; sink.taken(), text.as_bytes());
     }
+    Ok(())
+}
+
+#[test]
+fn the_system_may_lack_a_file(rt: HostRuntime) -> Result<(), Fail> {
+    let alloc = rt.alloc();
+    let mut shelf = StdShelf::new(&rt);
+    let mut sink = sink(alloc);
+    let words = ["run", "/a file that nobody wrote", "/dev/null"];
+    let status = status(alloc, &words, &mut shelf, &mut sink)?;
+    assert_eq!(rt; status, 2);
+    assert!(rt; sink.taken().is_empty());
+    Ok(())
+}
+
+// A device without space.
+struct Full;
+
+impl Print for Full {
+    fn print<D: Display + Drop>(&self, _value: D) -> io::Result<()> {
+        Err(ErrorKind::StorageFull.into())
+    }
+
+    fn println<D: Display + Drop>(&self, _value: D) -> io::Result<()> {
+        Err(ErrorKind::StorageFull.into())
+    }
+
+    fn write_all(&self, _bytes: &[u8]) -> io::Result<()> {
+        Err(ErrorKind::StorageFull.into())
+    }
+}
+
+#[test]
+fn an_output_may_be_full(rt: HostRuntime) -> Result<(), Fail> {
+    let alloc = rt.alloc();
+    let mut shelf = shelf(alloc, PROGRAM.as_bytes(), JOB.as_bytes(), Vec::new(alloc))?;
+    let mut sink = StdSink::new(&Full);
+    let status = status(alloc, &WORDS, &mut shelf, &mut sink)?;
+    assert_eq!(rt; status, 3);
     Ok(())
 }
