@@ -21,7 +21,7 @@ use Rattle.px_parse.specs.Grammar.{SpellsItems, SpellsAccess, SpellsResult, Spel
 use Rattle.px_parse.specs.Reading.{Read, Reads, ◌>>=◌, ◌>>◌, pure, refuse, same_word, next_word, by_word, take, expect, repeated, is_no_brace, is_comma, all_until_brace, access_on, result_on, param, next_param, some_params, params_on, thrown, throws_on, body, method, member_on, member_from, member, public_on, class, whole_of, whole}
 use Rattle.px_parse.proofs.Turns.{repeated_ends, repeated_turn}
 use Rattle.px_parse.proofs.Complete.{then_is, takes, expects}
-use Rattle.px_parse.proofs.CompleteStatements.{block_read, items_read}
+use Rattle.px_parse.proofs.CompleteStatements.{Begins, block_read, items_read}
 use Rattle.px_parse.proofs.SoundMembers.{first_of, body_nests}
 
 -- ---- what stands before a name
@@ -132,12 +132,6 @@ member_read source _ _ r rest (g.SpellsMember.field access long name semicolon m
 member_read source _ _ r rest (g.method access gives params items ms ps ts xs result name opening closing begin finish h i j k l a t p u s) d =
     let e = body_nests begin items in
     method_read source access gives params items ms ps ts xs result name opening closing begin finish r rest h i j k l a t p u s (omega (arith, e, d))
-
-record Begins (xs : List Lexeme) : Type 0 where
-  first : Lexeme
-  others : List Lexeme
-  is : xs ≡ first ∷ others
-  goes_on : is_no_brace first.word ≡ true
 
 access_begins : (access : Access) (gives : Option TypeName) (ms others : List Lexeme) (result : Lexeme) → SpellsAccess access ms → SpellsResult gives result → Begins (ms ++ result ∷ others)
 unfolding same_word

@@ -173,36 +173,33 @@ block_statement source opening closing items xs h i read =
           ∙ then_is (block source n (r, (opening ∷ xs ++ closing ∷ []) ++ rest)) (λ b. pure b.0) (block_of opening items, closing.token) (r, rest) (block_read source opening closing items xs h i read n r rest (omega (arith, d, nest)) k),
     ))
 
--- how a statement or a declaration begins
-record Begins (xs : List Lexeme) : Type 0 where
-  first : Lexeme
-  others : List Lexeme
-  is : xs ≡ first ∷ others
-  goes_on : is_no_brace first.word ≡ true
+-- the first word of an item or a member ends no list
+pub record Begins (xs : List Lexeme) : Type 0 where
+  pub first : Lexeme
+  pub others : List Lexeme
+  pub is : xs ≡ first ∷ others
+  pub goes_on : is_no_brace first.word ≡ true
 
 record BeginsStatement (xs : List Lexeme) : Type 0 where
-  first : Lexeme
-  others : List Lexeme
-  is : xs ≡ first ∷ others
-  goes_on : is_no_brace first.word ≡ true
-  no_long : first.word ≡ w.Long → ⊥
+  begins : Begins xs
+  no_long : begins.first.word ≡ w.Long → ⊥
 
 goes : (x : Lexeme) (word : Word) → x.word ≡ word → is_no_brace word ≡ true → is_no_brace x.word ≡ true
 goes x word h k = ap is_no_brace h ∙ k
 
 statement_begins : (source : List ℕ) (s : Stmt) (xs : List Lexeme) → SpellsStatement source s xs → BeginsStatement xs
 unfolding same_word
-statement_begins source _ _ (g.block opening closing items xs h i t) = record { first = opening; others = xs ++ closing ∷ []; is = refl; goes_on = goes opening w.OpenBrace h refl; no_long = λ z. cc }
-statement_begins source _ _ (g.empty semicolon h) = record { first = semicolon; others = []; is = refl; goes_on = goes semicolon w.Semicolon h refl; no_long = λ z. cc }
-statement_begins source _ _ (g.assignment _ value_of _ xs equals semicolon h i (g.SpellsPlace.variable x j) s) = record { first = x; others = equals ∷ xs ++ semicolon ∷ []; is = refl; goes_on = goes x w.Name j refl; no_long = λ z. cc }
-statement_begins source _ _ (g.assignment _ value_of _ xs equals semicolon h i (g.SpellsPlace.field x dot name j k l) s) = record { first = x; others = dot ∷ name ∷ equals ∷ xs ++ semicolon ∷ []; is = refl; goes_on = goes x w.This j refl; no_long = λ z. cc }
-statement_begins source _ _ (g.return_nothing x semicolon h i) = record { first = x; others = semicolon ∷ []; is = refl; goes_on = goes x w.Return h refl; no_long = λ z. cc }
-statement_begins source _ _ (g.return_value x semicolon value_of xs h i s) = record { first = x; others = xs ++ semicolon ∷ []; is = refl; goes_on = goes x w.Return h refl; no_long = λ z. cc }
+statement_begins source _ _ (g.block opening closing items xs h i t) = record { begins = record { first = opening; others = xs ++ closing ∷ []; is = refl; goes_on = goes opening w.OpenBrace h refl }; no_long = λ z. cc }
+statement_begins source _ _ (g.empty semicolon h) = record { begins = record { first = semicolon; others = []; is = refl; goes_on = goes semicolon w.Semicolon h refl }; no_long = λ z. cc }
+statement_begins source _ _ (g.assignment _ value_of _ xs equals semicolon h i (g.SpellsPlace.variable x j) s) = record { begins = record { first = x; others = equals ∷ xs ++ semicolon ∷ []; is = refl; goes_on = goes x w.Name j refl }; no_long = λ z. cc }
+statement_begins source _ _ (g.assignment _ value_of _ xs equals semicolon h i (g.SpellsPlace.field x dot name j k l) s) = record { begins = record { first = x; others = dot ∷ name ∷ equals ∷ xs ++ semicolon ∷ []; is = refl; goes_on = goes x w.This j refl }; no_long = λ z. cc }
+statement_begins source _ _ (g.return_nothing x semicolon h i) = record { begins = record { first = x; others = semicolon ∷ []; is = refl; goes_on = goes x w.Return h refl }; no_long = λ z. cc }
+statement_begins source _ _ (g.return_value x semicolon value_of xs h i s) = record { begins = record { first = x; others = xs ++ semicolon ∷ []; is = refl; goes_on = goes x w.Return h refl }; no_long = λ z. cc }
 
 item_begins : (source : List ℕ) (s : Stmt) (xs : List Lexeme) → SpellsItem source s xs → Begins xs
 unfolding same_word
 item_begins source _ _ (g.local long name equals semicolon value_of xs h i j k s) = record { first = long; others = name ∷ equals ∷ xs ++ semicolon ∷ []; is = refl; goes_on = goes long w.Long h refl }
-item_begins source s xs (g.statement t) = let b = statement_begins source s xs t in record { first = b.first; others = b.others; is = b.is; goes_on = b.goes_on }
+item_begins source s xs (g.statement t) = (statement_begins source s xs t).begins
 
 no_local : (source : List ℕ) (blocks : Blocks) (word : Word) → (word ≡ w.Long → ⊥) → item_on source blocks word ≡ statement source blocks
 unfolding item_on
@@ -212,7 +209,7 @@ no_local source blocks _ h = refl
 item_of_statement : (source : List ℕ) (s : Stmt) (xs : List Lexeme) → SpellsStatement source s xs → IsReadStatement source s xs → IsReadItem source s xs
 item_of_statement source s xs t read n r rest d k =
     let b = statement_begins source s xs t in
-    let first : next_word (xs ++ rest) ≡ b.first.word = ap (λ zs. next_word (zs ++ rest)) b.is in
+    let first : next_word (xs ++ rest) ≡ b.begins.first.word = ap (λ zs. next_word (zs ++ rest)) b.begins.is in
     ap (λ (q : Reads Stmt). q (r, xs ++ rest)) (no_local source (block source n) (next_word (xs ++ rest)) (λ z. b.no_long (sym first ∙ z))) ∙ read n r rest d k
 
 no_items_read : (source : List ℕ) → IsReadItems source [] []

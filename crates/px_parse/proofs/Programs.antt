@@ -32,13 +32,10 @@ program_read bytes p is =
     ap (option_map (made bytes)) (whole_read bytes max_nesting is.class (lexemes_of bytes (tokens_of bytes)) is.spells is.shallow)
     ∙ (λ i. let q : Program = record { classes = sym is.classes i; tokens = sym is.tokens i } in Some q)
 
-refused_by : (bytes : List ℕ) (result : Result Program ParseError) → Finds (program_of bytes) result → result ≡ Err Syntax → (p : Program) → IsProgram bytes p → ⊥
-refused_by bytes (Ok q) h e p is = cc
-refused_by bytes (Err Syntax) h e p is = let r = program_read bytes p is in cc
-refused_by bytes (Err NoMemory) h e p is = cc
-
 pub program_complete : (bytes : List ℕ) (result : Result Program ParseError) → Finds (program_of bytes) result → result ≡ Err Syntax → (p : Program) → IsProgram bytes p → ⊥
-program_complete bytes result h e p is = refused_by bytes result h e p is
+program_complete bytes (Ok q) h e p is = cc
+program_complete bytes (Err Syntax) h e p is = let r = program_read bytes p is in cc
+program_complete bytes (Err NoMemory) h e p is = cc
 
 pub one_program : (bytes : List ℕ) (p q : Program) → IsProgram bytes p → IsProgram bytes q → p ≡ q
 one_program bytes p q is also = let r = program_read bytes p is in let s = program_read bytes q also in cc

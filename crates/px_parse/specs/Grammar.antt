@@ -1,4 +1,5 @@
--- The grammar.
+-- The grammar, a part of Java's (JLS SE 8, chapters 8, 14 and 15): which lexemes spell which tree. A
+-- constructor is a rule. `source` is the text, for the spelling of names and numbers; numbers `id` are 0.
 use Rattle.std.specs.Prelude.{◌≡◌, ℕ, List, [], ◌∷◌, ◌++◌, Option, Some, None, codes}
 use Rattle.px_lex.specs.declared.lexeme.Lexeme.{Lexeme}
 use Rattle.px_lex.specs.declared.lexeme.Word.{Word}
@@ -16,7 +17,9 @@ use Rattle.px_lex.specs.declared.tree.Class.{Class}
 use Rattle.px_lex.specs.Lexemes.{spelled}
 use Rattle.px_parse.specs.Trees.{first_token, type_of, number_of, this_of, variable_of, field_of, group_of, negation_of, binary_of, block_of, empty_of, local_of, assignment_of, return_of, param_of, field_declaration_of, method_of, class_of}
 
--- how tightly an expression binds
+-- ---- expressions
+
+-- how tightly an expression binds, loosest first (JLS SE 8, 15.18, 15.17, 15.15, 15.8)
 pub data Level : Type 0 where
   Sum Product Prefixed Primary : Level
 
@@ -25,7 +28,10 @@ pub data IsSumSign : Word → Sign → Type 0 where
   plus : IsSumSign w.Plus sign.Plus
   minus : IsSumSign w.Minus sign.Minus
 
--- the lexemes spell the expression, at the level
+-- Sum      = Product | Sum ("+" | "-") Product
+-- Product  = Prefixed | Product "*" Prefixed
+-- Prefixed = Primary | "-" Prefixed
+-- Primary  = Number | "this" | Name | "this" "." Name | "(" Sum ")"
 pub data SpellsExpression (source : List ℕ) : Level → Expr → List Lexeme → Type 0 where
   number : (x : Lexeme) → x.word ≡ w.Number → SpellsExpression source Primary (number_of source x) (x ∷ [])
   this_alone : (x : Lexeme) → x.word ≡ w.This → SpellsExpression source Primary (this_of x) (x ∷ [])
@@ -39,12 +45,15 @@ pub data SpellsExpression (source : List ℕ) : Level → Expr → List Lexeme �
   term : {e : Expr} {xs : List Lexeme} → SpellsExpression source Product e xs → SpellsExpression source Sum e xs
   sum : (op : Sign) (sign_word : Lexeme) (l r : Expr) (ls rs : List Lexeme) → IsSumSign sign_word.word op → SpellsExpression source Sum l ls → SpellsExpression source Product r rs → SpellsExpression source Sum (binary_of op sign_word l r) (ls ++ sign_word ∷ rs)
 
--- a variable or a field of the object itself
+-- ---- statements
+
+-- Place = Name | "this" "." Name: what is assigned (JLS SE 8, 15.26)
 pub data SpellsPlace (source : List ℕ) : Expr → List Lexeme → Type 0 where
   variable : (x : Lexeme) → x.word ≡ w.Name → SpellsPlace source (variable_of source x) (x ∷ [])
   field : (this_word dot name : Lexeme) → this_word.word ≡ w.This → dot.word ≡ w.Dot → name.word ≡ w.Name → SpellsPlace source (field_of source this_word name) (this_word ∷ dot ∷ name ∷ [])
 
--- Statements; declarations and statements in a block; such a list.
+-- Statement = "{" Item* "}" | ";" | Place "=" Sum ";" | "return" Sum? ";" (JLS SE 8, 14.2, 14.6, 14.8, 14.17)
+-- Item      = "long" Name "=" Sum ";" | Statement (JLS SE 8, 14.4)
 mutual
   pub data SpellsStatement (source : List ℕ) : Stmt → List Lexeme → Type 0 where
     block : (opening closing : Lexeme) (items : List Stmt) (xs : List Lexeme) → opening.word ≡ w.OpenBrace → closing.word ≡ w.CloseBrace → SpellsItems source items xs → SpellsStatement source (block_of opening items) (opening ∷ xs ++ closing ∷ [])
@@ -63,12 +72,13 @@ mutual
 
 -- ---- members
 
+-- Access = ("public" | "private")?
 pub data SpellsAccess : Access → List Lexeme → Type 0 where
   as_public : (x : Lexeme) → x.word ≡ w.Public → SpellsAccess Public (x ∷ [])
   as_private : (x : Lexeme) → x.word ≡ w.Private → SpellsAccess Private (x ∷ [])
   plain : SpellsAccess Plain []
 
--- the type of a method's result
+-- Result = "void" | "long"
 pub data SpellsResult : Option TypeName → Lexeme → Type 0 where
   nothing : (x : Lexeme) → x.word ≡ w.Void → SpellsResult None x
   long : (x : Lexeme) → x.word ≡ w.Long → SpellsResult (Some (type_of x)) x
@@ -78,14 +88,17 @@ pub data SpellsMoreParams (source : List ℕ) : List Param → List Lexeme → T
   no_more : SpellsMoreParams source [] []
   more : (comma long name : Lexeme) (ps : List Param) (xs : List Lexeme) → comma.word ≡ w.Comma → long.word ≡ w.Long → name.word ≡ w.Name → SpellsMoreParams source ps xs → SpellsMoreParams source (param_of source long name ∷ ps) (comma ∷ long ∷ name ∷ xs)
 
+-- Params = ("long" Name ("," "long" Name)*)? (JLS SE 8, 8.4.1)
 pub data SpellsParams (source : List ℕ) : List Param → List Lexeme → Type 0 where
   no_param : SpellsParams source [] []
   params : (long name : Lexeme) (ps : List Param) (xs : List Lexeme) → long.word ≡ w.Long → name.word ≡ w.Name → SpellsMoreParams source ps xs → SpellsParams source (param_of source long name ∷ ps) (long ∷ name ∷ xs)
 
+-- Throws = ("throws" SQLException)? (JLS SE 8, 8.4.6)
 pub data SpellsThrows (source : List ℕ) : List Lexeme → Type 0 where
   no_throws : SpellsThrows source []
   throws : (x name : Lexeme) → x.word ≡ w.Throws → name.word ≡ w.Name → spelled source name.from name.to ≡ codes "SQLException" → SpellsThrows source (x ∷ name ∷ [])
 
+-- Member = Access "long" Name ";" | Access Result Name "(" Params ")" Throws "{" Item* "}" (JLS SE 8, 8.3, 8.4)
 pub data SpellsMember (source : List ℕ) : Member → List Lexeme → Type 0 where
   field : (access : Access) (long name semicolon : Lexeme) (ms : List Lexeme) → long.word ≡ w.Long → name.word ≡ w.Name → semicolon.word ≡ w.Semicolon → SpellsAccess access ms → SpellsMember source (field_declaration_of source access (type_of long) name) (ms ++ long ∷ name ∷ semicolon ∷ [])
   method : (access : Access) (gives : Option TypeName) (params : List Param) (items : List Stmt) (ms ps ts xs : List Lexeme) (result name opening closing begin finish : Lexeme)
@@ -97,10 +110,13 @@ pub data SpellsMembers (source : List ℕ) : List Member → List Lexeme → Typ
   no_member : SpellsMembers source [] []
   member : (m : Member) (ms : List Member) (xs ys : List Lexeme) → SpellsMember source m xs → SpellsMembers source ms ys → SpellsMembers source (m ∷ ms) (xs ++ ys)
 
+-- ---- classes
+
 pub data SpellsPublic : List Lexeme → Type 0 where
   left_out : SpellsPublic []
   written : (x : Lexeme) → x.word ≡ w.Public → SpellsPublic (x ∷ [])
 
+-- Class = "public"? "class" Name "{" Member* "}" (JLS SE 8, 8.1)
 pub data SpellsClass (source : List ℕ) : Class → List Lexeme → Type 0 where
   class : (word name opening closing : Lexeme) (members : List Member) (ms xs : List Lexeme) → word.word ≡ w.Class → name.word ≡ w.Name → opening.word ≡ w.OpenBrace → closing.word ≡ w.CloseBrace → SpellsPublic ms → SpellsMembers source members xs → SpellsClass source (class_of source name members) (ms ++ word ∷ name ∷ opening ∷ xs ++ closing ∷ [])
 

@@ -24,7 +24,7 @@ fn reversed<T: Drop>(alloc: Global, mut items: Items<T>) -> Result<Items<T>, All
 }
 
 impl Numbers {
-    // No memory holds a tree with so many nodes that the numbers run out.
+    // A text that is parsed has fewer tokens, and so fewer nodes, than there are numbers.
     fn fresh(&mut self) -> Result<u32, AllocError>
         ensures number { IfOk result (λ n. n ≡ self.old.next) }
         ensures next { OnOk result (self.new.next ≡ self.old.next + 1) }
