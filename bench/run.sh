@@ -1,6 +1,6 @@
 #!/usr/bin/env bash
 # Measures the built program, crates/px_main/out/px_main or the one that is named, at a size, twice
-# it and four times it: the processor's seconds of each, the least of three runs, and what each
+# it and four times it: the processor's seconds of each, the least of fifteen runs, and what each
 # doubling costs.
 set -eu
 program=$(realpath "${1:-$(dirname "$0")/../crates/px_main/out/px_main}")
@@ -26,12 +26,17 @@ least() { for _ in 1 2 3; do once; done | sort -n | head -n 1; }
 
 # A row: its name, what makes its files of a size, and three sizes.
 row() {
-  local times=() size
-  for size in $3 $4 $5; do
-    $2 "$size"
-    times+=("$(least)")
+  local -A best=()
+  local size time
+  # In rounds, so that a slow minute of the machine strikes all sizes alike.
+  for _ in 1 2 3 4 5; do
+    for size in $3 $4 $5; do
+      $2 "$size"
+      time=$(least)
+      [ "$time" -ge "${best[$size]:-$((time + 1))}" ] || best[$size]=$time
+    done
   done
-  awk -v name="$1" -v a="${times[0]}" -v b="${times[1]}" -v c="${times[2]}" \
+  awk -v name="$1" -v a="${best[$3]}" -v b="${best[$4]}" -v c="${best[$5]}" \
     -v sizes="$3 $4 $5" -v answer="$(head -n 1 text)" 'BEGIN {
       printf "%-36s %-16s", name, sizes
       printf "%7.3f %7.3f %7.3f", a / 1000, b / 1000, c / 1000
