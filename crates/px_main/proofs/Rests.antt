@@ -2,7 +2,7 @@
 use Rattle.std.proofs.Common.{List, map}
 use Rattle.px_value.specs.declared.value.Value.{Value}
 use Rattle.px_lex.specs.declared.tree.Member.{Member}
-use Rattle.px_mean.specs.Serial.{default_of}
+use Rattle.px_value.specs.Defaults.{default_of}
 use Rattle.px_mean.specs.Program.{field_types}
 
 -- the first values of the fields

@@ -1,13 +1,13 @@
 //! The members of a program's classes.
 ghost use Rattle.std.specs.Prelude.{◌≡◌, ◌++◌, map, length, IfOk, OnOk};
 ghost use Rattle.px_types.specs.Members.{members_in, methods_in};
-ghost use Rattle.px_mean.specs.Serial.{default_of};
+ghost use Rattle.px_value.specs.Defaults.{default_of};
 ghost use Rattle.px_mean.specs.Facts.{base_ty};
 ghost use Rattle.px_mean.specs.Program.{field_types};
 ghost use Rattle.px_plain.specs.View.{all_now};
 
 use px_lex::tree::{Base, Class, Member, Method};
-use px_value::{Value, Values};
+use px_value::{Ty, Values};
 use std::alloc::{AllocError, Global};
 
 fn push_members<'a>(all: &mut Vec<&'a Member>, members: &'a [Member]) -> Result<(), AllocError>
@@ -44,11 +44,11 @@ pub fn methods<'a>(alloc: Global, members: &[&'a Member]) -> Result<Vec<&'a Meth
     Ok(all)
 }
 
-fn default_value(base: Base) -> Value
-    ensures { result ≡ default_of (base_ty base) }
+fn type_of(base: Base) -> Ty
+    ensures { result ≡ base_ty base }
 {
     match base {
-        Base::Long => Value::Long(0),
+        Base::Long => Ty::Long,
     }
 }
 
@@ -59,7 +59,7 @@ pub fn first_cells(alloc: Global, members: &[&Member]) -> Result<Values, AllocEr
     let mut cells = Values::new(alloc);
     for member in members {
         match member {
-            Member::Field(field) => cells.push(default_value(field.ty.base))?,
+            Member::Field(field) => cells.push(type_of(field.ty.base).default_value())?,
             Member::Method(_) => {}
         }
     }

@@ -18,8 +18,8 @@ use Rattle.px_lex.specs.declared.tree.StmtForm.TheOpen.{StmtForm-F as st}
 use Rattle.px_types.specs.declared.checked.Named.TheVariants as named
 use Rattle.px_mean.specs.declared.serial.Session.{Session}
 use Rattle.px_mean.specs.declared.serial.Made.{Made}
-use Rattle.px_mean.specs.Outcome.{Gives, Throws, Flow, Goes, ◌>>=◌, pure}
-use Rattle.px_mean.specs.Operators.{apply}
+use Rattle.px_value.specs.Outcome.{Gives, Throws, Flow, Goes, ◌>>=◌, pure}
+use Rattle.px_value.specs.Operators.{apply}
 use Rattle.px_mean.specs.Facts.{Facts, facts_in}
 use Rattle.px_mean.specs.Exec.{Frame, Here, Meant, expr_step, stmt_step, leaves_frame, first_locals}
 use Rattle.px_mean.specs.Serial.{Meaning, served}

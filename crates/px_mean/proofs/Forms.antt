@@ -13,7 +13,7 @@ use Rattle.px_lex.specs.declared.tree.Stmt.{Stmt, fold-Stmt, fold_out-Stmt}
 use Rattle.px_lex.specs.declared.tree.StmtForm.{StmtForm, StmtForm-F, fold-StmtForm, fold-roll-StmtForm, roll-StmtForm, map-StmtForm}
 use Rattle.px_lex.specs.declared.tree.StmtForm.TheVariants.{Block, rolls-Block, Empty, rolls-Empty, Local, rolls-Local, Assign, rolls-Assign, Return, rolls-Return}
 use Rattle.px_lex.specs.declared.tree.StmtForm.TheOpen.{StmtForm-F as g}
-use Rattle.px_mean.specs.Outcome.{Outcome, Gives, Flow, Goes, Run, ◌>>=◌, pure, in_order}
+use Rattle.px_value.specs.Outcome.{Outcome, Gives, Flow, Goes, Run, ◌>>=◌, pure, in_order}
 use Rattle.px_mean.specs.Facts.{Facts, named_ty, prefix_of}
 use Rattle.px_mean.specs.Exec.{Meant, Frame, Here, no_place, literal, this_value, name_value, put_name, member_value, put_member, fit, came_to, prefixed, binary, expr_step, numbered, meant, scoped, declare, goes, returned, map_option, stmt_step, whole, done_by}
 

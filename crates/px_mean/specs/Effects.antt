@@ -4,7 +4,7 @@ use Rattle.px_value.specs.declared.value.Value.{Value}
 use Rattle.px_value.specs.declared.value.Value.TheVariants.{Null, Ref}
 use Rattle.px_value.specs.declared.thrown.Thrown.TheVariants.{NullPointerException}
 use Rattle.px_value.specs.Heap.{cell_at, written}
-use Rattle.px_mean.specs.Outcome.{Gives, Run, throw, Shared}
+use Rattle.px_value.specs.Outcome.{Gives, Run, throw, Shared}
 
 abbrev pub read_cell : {Q W : Type 0} → ℕ → ℕ → Run Q (Shared W) Value
 read_cell object index = λ s. Gives (unwrap_or (cell_at s.heap object index) Null) s

@@ -18,8 +18,8 @@ use Rattle.px_lex.specs.declared.tree.StmtForm.TheOpen.{StmtForm-F as st}
 use Rattle.px_types.specs.Literals.{decimal_value}
 use Rattle.px_types.specs.declared.checked.Named.{Named}
 use Rattle.px_types.specs.declared.checked.Named.TheVariants as named
-use Rattle.px_mean.specs.Outcome.{Outcome, Gives, Throws, Asks, Run, ◌>>=◌, pure, throw, State, Shared, on_shared, Flow, Goes, Returns, in_order}
-use Rattle.px_mean.specs.Operators.{Applied, apply}
+use Rattle.px_value.specs.Outcome.{Outcome, Gives, Throws, Asks, Run, ◌>>=◌, pure, throw, State, Shared, on_shared, Flow, Goes, Returns, in_order}
+use Rattle.px_value.specs.Operators.{Applied, apply}
 use Rattle.px_mean.specs.Effects.{get_field, put_field}
 use Rattle.px_mean.specs.Facts.{Facts, named_ty, op_of, prefix_of}
 

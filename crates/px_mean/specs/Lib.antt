@@ -1,5 +1,3 @@
-pub mod Outcome
-pub mod Operators
 pub mod Effects
 pub mod Facts
 pub mod Exec

@@ -1,16 +1,15 @@
 -- Entry calls, and the serial run.
-use Rattle.std.specs.Prelude.{ℕ, zero, suc, ◌+◌, List, [], ◌∷◌, ◌++◌, length, map, replicate, Option, Some, None, slice_get, slice_set, pos, false}
+use Rattle.std.specs.Prelude.{ℕ, zero, suc, ◌+◌, List, [], ◌∷◌, ◌++◌, length, map, replicate, Option, Some, None, slice_get, slice_set}
 use Rattle.px_value.specs.declared.value.Value.{Value}
-use Rattle.px_value.specs.declared.value.Value.TheVariants.{Int, Long, Bool as Truth, Null}
 use Rattle.px_value.specs.declared.ty.Ty.{Ty}
-use Rattle.px_value.specs.declared.ty.Ty.TheVariants as ty
 use Rattle.px_value.specs.declared.header.Kind.TheVariants as kind
 use Rattle.px_value.specs.declared.object.Object.{Object}
-use Rattle.px_mean.specs.declared.reply.Reply.{Reply}
-use Rattle.px_mean.specs.declared.reply.Reply.TheVariants as reply
+use Rattle.px_value.specs.Defaults.{default_of}
+use Rattle.px_code.specs.declared.reply.Reply.{Reply}
+use Rattle.px_code.specs.declared.reply.Reply.TheVariants as reply
 use Rattle.px_mean.specs.declared.serial.Session.{Session}
 use Rattle.px_mean.specs.declared.serial.Made.{Made}
-use Rattle.px_mean.specs.Outcome.{Outcome, Gives, Throws, Asks, Shared}
+use Rattle.px_value.specs.Outcome.{Outcome, Gives, Throws, Asks, Shared}
 use Rattle.px_mean.specs.Facts.{Facts}
 use Rattle.px_mean.specs.Exec.{Body, exec}
 
@@ -42,14 +41,6 @@ unfoldable pub call_of : {W : Type 0} → Meaning → List Object → W → ℕ 
 call_of P heap world method args = ended heap world (exec P.facts P.bodies heap world method args)
 
 -- ---- the serial run
-
--- the value of a field before it is written (JLS 4.12.5)
-abbrev pub default_of : Ty → Value
-default_of ty.Int = Int (pos 0)
-default_of ty.Long = Long (pos 0)
-default_of ty.Bool = Truth false
-default_of ty.Text = Null
-default_of ty.Ref = Null
 
 -- a session's first heap: one object of Main, with these fields
 abbrev pub first_heap : List Ty → List Object

@@ -1,8 +1,7 @@
 //! What a program means.
 #![tactic(auto)]
 
-mod reply;
 mod serial;
 
-pub use reply::Reply;
+pub use px_code::Reply;
 pub use serial::{Made, Session};

@@ -1,5 +1,5 @@
 //! What a serial run leaves.
-use crate::reply::Reply;
+use px_code::Reply;
 use px_value::Heap;
 
 /// What a session has.

@@ -10,8 +10,8 @@ use Rattle.px_lex.specs.declared.tree.ExprForm.TheVariants.{Number, This, Name, 
 use Rattle.px_lex.specs.declared.tree.Stmt.{Stmt}
 use Rattle.px_lex.specs.declared.tree.StmtForm.TheVariants.{Block, Empty, Local, Assign, Return}
 use Rattle.px_types.specs.declared.checked.Fact.{Fact}
-use Rattle.px_mean.specs.Outcome.{Gives, Flow, Goes, then_run, ◌>>=◌, pure, in_order}
-use Rattle.px_mean.specs.Operators.{apply}
+use Rattle.px_value.specs.Outcome.{Gives, Flow, Goes, then_run, ◌>>=◌, pure, in_order}
+use Rattle.px_value.specs.Operators.{apply}
 use Rattle.px_mean.specs.Facts.{facts_in, named_ty, prefix_of, op_of}
 use Rattle.px_mean.specs.Exec.{Meant, literal, name_value, put_name, member_value, put_member, fit, came_to, prefixed, scoped, declare, goes, returned, map_option}
 use Rattle.px_mean.proofs.Forms as forms

@@ -2,7 +2,7 @@
 use Rattle.std.proofs.Common.{◌≡◌, ℕ, List, take, Result, Ok, Err, refl, sym, ap, ◌∙◌, subst}
 use Rattle.std.specs.Result.{IsErrAnd}
 use Rattle.px_value.specs.declared.value.Value.{Value}
-use Rattle.px_mean.specs.Outcome.{Outcome, Gives, Throws, Run, then_run, Flow}
+use Rattle.px_value.specs.Outcome.{Outcome, Gives, Throws, Run, then_run, Flow}
 use Rattle.px_mean.specs.Exec.{leaves, with_slots}
 use Rattle.px_plain.specs.declared.machine.Stop.{Stop}
 use Rattle.px_plain.specs.declared.machine.Stop.TheVariants as stop

@@ -6,7 +6,7 @@ use Rattle.px_value.specs.declared.ty.Ty.{Ty}
 use Rattle.px_lex.specs.declared.tree.Expr.{Expr}
 use Rattle.px_lex.specs.declared.tree.Stmt.{Stmt}
 use Rattle.px_types.specs.declared.checked.Fact.{Fact}
-use Rattle.px_mean.specs.Outcome.{Outcome, Gives, Throws, Flow, Goes, Returns}
+use Rattle.px_value.specs.Outcome.{Outcome, Gives, Throws, Flow, Goes, Returns}
 use Rattle.px_mean.specs.Facts.{facts_in}
 use Rattle.px_mean.specs.Exec.{Frame, Meant, meant, done_by}
 use Rattle.px_mean.specs.Serial.{Called}

@@ -2,7 +2,7 @@
 ghost use Rattle.std.specs.Prelude.{◌≡◌, ◌∷◌, map, Some, IfOk};
 ghost use Rattle.std.specs.Option.{option_copied};
 ghost use Rattle.px_value.specs.declared.value.Value.TheVariants.{Ref};
-ghost use Rattle.px_mean.specs.Outcome.{Shared};
+ghost use Rattle.px_value.specs.Outcome.{Shared};
 ghost use Rattle.px_mean.specs.Facts.{facts_in, named_ty};
 ghost use Rattle.px_mean.specs.Exec.{body_at, enters, map_option, result_of};
 ghost use Rattle.px_mean.specs.Serial.{ended, call_of, reply_of as mean_reply};

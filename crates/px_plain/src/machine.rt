@@ -2,7 +2,7 @@
 ghost use Rattle.std.specs.Prelude.{◌≡◌, map, slice_set, unwrap_or, IfOk};
 ghost use Rattle.std.specs.Option.{option_copied};
 ghost use Rattle.px_value.specs.declared.value.Value.TheVariants.{Null};
-ghost use Rattle.px_mean.specs.Outcome.{in_order, on_shared, then_run};
+ghost use Rattle.px_value.specs.Outcome.{in_order, on_shared, then_run};
 ghost use Rattle.px_mean.specs.Facts.{facts_in, named_ty};
 ghost use Rattle.px_mean.specs.Exec.{name_value, put_name, member_value, put_member, with_slots, fit, returned, map_option};
 ghost use Rattle.px_mean.specs.Effects.{get_field, put_field};
@@ -10,9 +10,10 @@ ghost use Rattle.px_plain.specs.Undo.{undone};
 ghost use Rattle.px_plain.specs.View.{frame_of, says, does, Ends, EndsFlow, Keeps, IfKept};
 ghost use Rattle.px_plain.specs.declared.machine.Stop.TheVariants.{NoMemory};
 
-use crate::operators::{apply, literal, op_of, prefixed, widened};
+use crate::operators::{literal, op_of, prefixed, widened};
 use crate::undo::{Change, take_back, write};
 use px_lex::tree::{Base, Expr, ExprForm, Stmt, StmtForm, TypeName};
+use px_ops::apply;
 use px_types::{Fact, Named};
 use px_value::{Heap, Thrown, Ty, Value};
 use sqlite_items::at;

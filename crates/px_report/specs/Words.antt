@@ -8,8 +8,8 @@ use Rattle.px_value.specs.declared.thrown.Thrown.{Thrown}
 use Rattle.px_value.specs.declared.thrown.Thrown.TheVariants.{NullPointerException}
 use Rattle.px_value.specs.declared.header.Kind.{Kind}
 use Rattle.px_value.specs.declared.header.Kind.TheVariants.{Object, Array, Rows}
-use Rattle.px_mean.specs.declared.reply.Reply.{Reply}
-use Rattle.px_mean.specs.declared.reply.Reply.TheVariants as reply
+use Rattle.px_code.specs.declared.reply.Reply.{Reply}
+use Rattle.px_code.specs.declared.reply.Reply.TheVariants as reply
 
 -- ---- values
 

@@ -1,1 +1,4 @@
 pub mod Heap
+pub mod Outcome
+pub mod Operators
+pub mod Defaults

@@ -105,6 +105,13 @@ impl Heap {
         }
     }
 
+    /// How many objects there are.
+    pub fn len(&self) -> u32
+        ensures { result ≡ length self.now }
+    {
+        self.objects.len() as u32
+    }
+
     /// The objects in order of allocation.
     pub fn as_slice(&self) -> &[Object]
         ensures { result.now ≡ self.now }

@@ -2,8 +2,8 @@ use Rattle.std.proofs.Common.{ap, sym, ◌∙◌, List, ℕ, subst, refl}
 use Rattle.px_value.specs.declared.value.Value.{Value}
 use Rattle.px_value.specs.declared.op.Op.{Op}
 use Rattle.px_types.specs.declared.checked.Named.{Named}
-use Rattle.px_mean.specs.Outcome.{Gives}
-use Rattle.px_mean.specs.Operators.{Applied, apply}
+use Rattle.px_value.specs.Outcome.{Gives}
+use Rattle.px_value.specs.Operators.{Applied, apply}
 use Rattle.px_mean.specs.Exec.{literal, came_to, name_value, member_value}
 use Rattle.px_plain.specs.View.{frame_of, Ends, Ending, says}
 use Rattle.px_plain.proofs.Steps.{exits, gives_then, ends_with, hands_on, same_end}

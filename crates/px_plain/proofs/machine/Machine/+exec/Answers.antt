@@ -2,7 +2,7 @@ use Rattle.std.proofs.Common.{ap, sym, ◌∙◌, List, length, map, subst, refl
 use Rattle.px_value.specs.declared.ty.Ty.{Ty}
 use Rattle.px_value.specs.declared.value.Value.{Value}
 use Rattle.px_lex.specs.declared.tree.Stmt.{Stmt}
-use Rattle.px_mean.specs.Outcome.{Gives, Goes, then_run, in_order}
+use Rattle.px_value.specs.Outcome.{Gives, Goes, then_run, in_order}
 use Rattle.px_mean.specs.Exec.{fit, leaves, declare, with_slots}
 use Rattle.px_plain.specs.View.{frame_of, says, does}
 use Rattle.px_plain.proofs.Steps.{exits, gives_then, ends_with, exits_flow, same_flow, exits_block, block_ends}

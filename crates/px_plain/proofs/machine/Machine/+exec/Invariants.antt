@@ -1,5 +1,5 @@
 use Rattle.std.proofs.Common.{◌≡◌, map, drop}
-use Rattle.px_mean.specs.Outcome.{in_order}
+use Rattle.px_value.specs.Outcome.{in_order}
 use Rattle.px_plain.specs.View.{frame_of, does, Keeps}
 use Rattle.px_plain.proofs.machine.Machine.+exec.Given as goal
 

@@ -1,7 +1,7 @@
 use Rattle.std.proofs.Common.{ap, sym, ◌∙◌, subst, refl}
 use Rattle.px_value.specs.declared.ty.Ty.{Ty}
 use Rattle.px_types.specs.declared.checked.Named.{Named}
-use Rattle.px_mean.specs.Outcome.{then_run}
+use Rattle.px_value.specs.Outcome.{then_run}
 use Rattle.px_mean.specs.Facts.{facts_in}
 use Rattle.px_mean.specs.Exec.{fit, put_member}
 use Rattle.px_plain.specs.View.{frame_of, Ends, Ending, says}

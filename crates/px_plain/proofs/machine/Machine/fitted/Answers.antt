@@ -1,7 +1,7 @@
 use Rattle.std.proofs.Common.{ap, sym, ◌∙◌}
 use Rattle.px_value.specs.declared.ty.Ty.{Ty}
 use Rattle.px_mean.specs.Facts.{facts_in}
-use Rattle.px_mean.specs.Operators.{Applied}
+use Rattle.px_value.specs.Operators.{Applied}
 use Rattle.px_mean.specs.Exec.{came_to, widened}
 use Rattle.px_mean.proofs.Forms.{meant_type}
 use Rattle.px_plain.specs.View.{frame_of}

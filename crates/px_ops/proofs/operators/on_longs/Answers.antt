@@ -2,7 +2,7 @@ use Rattle.std.proofs.Common.{ap, sym, ◌∙◌, w64, rules, SFits, Ok, ℤ}
 use Rattle.std.specs.Int.{int_wrapping_neg}
 use Rattle.std.proofs.lemmas.Int.{wrapping_add_is, wrapping_sub_is, wrapping_neg_is, to_z-of_z}
 use Rattle.px_value.specs.declared.value.Value.TheVariants.{Long}
-use Rattle.px_plain.proofs.operators.on_longs.Goals as goal
+use Rattle.px_ops.proofs.operators.on_longs.Goals as goal
 
 pub returns-in-Add : goal.returns-in-Add
 returns-in-Add c = rw c.in-Add.is (ap (λ (n : ℤ). Ok (Long n)) (sym (wrapping_add_is w64 c.args.a c.args.b c.ranges.a c.ranges.b)))

@@ -1,0 +1,1 @@
+//! What holds of code, as theorems about its definitions.

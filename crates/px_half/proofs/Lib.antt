@@ -1,0 +1,2 @@
+pub mod Undoes
+pub mod Stacks

@@ -1,0 +1,12 @@
+//! One end of a session: its heap, its copy of the stack, and what it has written since control came.
+#![tactic(auto)]
+
+mod half;
+mod machine;
+mod stack;
+mod step;
+mod stop;
+mod undo;
+
+pub use half::Half;
+pub use step::Step;
