@@ -1,5 +1,5 @@
 -- One end of a session, as contracts see it, and what its calls do.
-use Rattle.std.specs.Prelude.{◌≡◌, ℕ, zero, suc, ◌+◌, Bool, true, false, List, [], ◌∷◌, ◌++◌, length, map, drop, Option, Some, None, unwrap_or, slice_get, pos}
+use Rattle.std.specs.Prelude.{◌≡◌, ℕ, zero, suc, ◌+◌, ◌<◌, Bool, true, false, List, [], ◌∷◌, ◌++◌, length, map, drop, Option, Some, None, unwrap_or, slice_get, pos}
 use Rattle.px_value.specs.declared.value.Value.{Value}
 use Rattle.px_value.specs.declared.value.Value.TheVariants.{Null, Ref}
 use Rattle.px_value.specs.declared.object.Object.{Object}
@@ -7,6 +7,7 @@ use Rattle.px_value.specs.declared.header.Header.{Header}
 use Rattle.px_value.specs.declared.header.Kind.TheVariants as kind
 use Rattle.px_value.specs.declared.ty.Ty.{Ty}
 use Rattle.px_value.specs.Defaults.{default_of}
+use Rattle.px_value.specs.Heap.{max_counted}
 use Rattle.px_code.specs.declared.side.Side.{Side}
 use Rattle.px_code.specs.declared.side.Side.TheVariants.{App, Db}
 use Rattle.px_code.specs.declared.class.Class.{Class}
@@ -78,12 +79,32 @@ first_object code = record {
   cells = class_defaults code code.main;
 }
 
+-- an object of Main fits into a heap
+abbrev pub HasSmallMain : Option Plan → Type 0
+HasSmallMain None = Unit {0}
+HasSmallMain (Some plan) = length (class_defaults plan.code plan.code.main) < max_counted
+
 abbrev pub first_objects : Option Plan → List Object
 first_objects None = []
 first_objects (Some plan) = first_object plan.code ∷ []
 
 abbrev pub at_rest : List Object → Machine
 at_rest heap = record { heap = heap; frames = []; base = 0; marks = []; named = [] }
+
+-- an end as new, with the first plan
+abbrev pub new_end : Side → List Plan → End
+new_end side plans = record {
+  side = side;
+  plans = plans;
+  part = 0;
+  in_call = false;
+  entry = 0;
+  block = 0;
+  turns = 0;
+  known = length (first_objects (slice_get plans 0));
+  machine = at_rest (first_objects (slice_get plans 0));
+  closed = first_objects (slice_get plans 0);
+}
 
 -- ---- the begin of a call
 
@@ -168,13 +189,13 @@ abbrev pub block_run_if : Bool → List Block → Block → End → BlockRun
 block_run_if true blocks block e = run_here blocks block e (steps block.statements e.machine)
 block_run_if false blocks block e = runs_nothing step.Cross e
 
--- at block 0, the call has ended
-abbrev pub at_end : Side → Step
-at_end App = step.Done
-at_end Db = step.Cross
+-- at block 0 the call has ended, at APP
+abbrev pub without_block : Side → ℕ → Step
+without_block App zero = step.Done
+without_block side n = step.Cross
 
 abbrev pub block_run_of : Option Block → List Block → End → BlockRun
-block_run_of None blocks e = runs_nothing (at_end e.side) e
+block_run_of None blocks e = runs_nothing (without_block e.side e.block) e
 block_run_of (Some block) blocks e = block_run_if (same_side e.side block.side) blocks block e
 
 abbrev pub block_run : End → BlockRun

@@ -1,14 +1,20 @@
 //! One end.
-ghost use Rattle.std.specs.Prelude.{◌≡◌, ◌≤◌, ◌<◌, ◌+◌, length, false, Some, IfOk, OnOk, OnErr};
+ghost use Rattle.std.specs.Prelude.{◌≡◌, [], slice_get, true, false, IfOk, OnOk, OnErr};
 ghost use Rattle.px_code.specs.declared.side.Side.TheVariants.{App, Db};
-ghost use Rattle.px_value.specs.Heap.{heap_counted, max_counted};
-ghost use Rattle.px_half.specs.End.{plan_at, first_objects, at_rest, begun, attended, block_run, reply_at, closed_now, rolled_back};
-ghost use Rattle.px_half.specs.Machine.{machine_of, closed_of};
+ghost use Rattle.px_half.specs.End.{HasSmallMain, new_end, begun, attended, block_run, reply_at, rested, closed_now, rolled_back};
 
+use crate::entering::{entry_frame, root_frame, types_in};
+use crate::first_heap::first_heap;
 use crate::machine::Machine;
+use crate::next::{next_block, without_block};
+use crate::plans::{block_at, first_block, method_at, plan_at, side_of_block};
+use crate::stack::slot_at;
 use crate::step::Step;
-use px_code::{Plans, Shown, Side};
-use px_value::{Heap, Value};
+use crate::stop::Stop;
+use crate::undo::take_back;
+use px_code::{Plans, Reply, Shown, Side};
+use px_value::Value;
+use sqlite_items::Items;
 use std::alloc::{AllocError, Global};
 use std::marker::Model;
 
@@ -33,15 +39,155 @@ impl Model for Half {
     ghost Value = { End };
 
     ghost view = { λ h. record {
-        side = h.side;
-        plans = h.plans.value.items;
-        part = h.part;
-        in_call = h.in_call;
-        entry = h.entry;
-        block = h.block;
-        turns = h.turns;
-        known = h.known;
-        machine = machine_of h.machine;
-        closed = closed_of h.machine;
+      side = h.side;
+      plans = h.plans.value.items;
+      part = h.part;
+      in_call = h.in_call;
+      entry = h.entry;
+      block = h.block;
+      turns = h.turns;
+      known = h.known;
+      machine = machine_of h.machine;
+      closed = closed_of h.machine;
     } };
+}
+
+impl Half {
+    /// An end as new: its heap holds one object of Main, and the plan is the first.
+    pub fn new(alloc: Global, side: Side, plans: &Plans) -> Result<Half, AllocError>
+        requires { HasSmallMain (slice_get plans.now.value.items 0) }
+        ensures { IfOk result (λ h. h ≡ new_end side plans.now.value.items) }
+    {
+        let plans = plans.clone()?;
+        let heap = first_heap(alloc, plan_at(&plans, 0))?;
+        let known = heap.len();
+        Ok(Half {
+            side,
+            plans,
+            part: 0,
+            in_call: false,
+            entry: 0,
+            block: 0,
+            turns: 0,
+            known,
+            machine: Machine {
+                heap,
+                undo: Vec::new(alloc),
+                frames: Vec::new(alloc),
+                base: 0,
+                marks: Vec::new(alloc),
+                named: Vec::new(alloc),
+            },
+        })
+    }
+
+    /// Opens a call of a method, by its number from 1. Its first block may be at the other side.
+    pub fn begin(&mut self, alloc: Global, method: u16, args: &[Value]) -> Result<(), AllocError>
+        requires side { self.old.side ≡ App }
+        requires closed { self.old.in_call ≡ false }
+        ensures ok { OnOk result (self.new ≡ begun method args.now self.old) }
+        ensures err { OnErr result (self.new ≡ self.old) }
+    {
+        let plan = plan_at(&self.plans, self.part);
+        let block = first_block(plan, method);
+        let mut frames = Vec::new(alloc);
+        frames.push(root_frame(alloc)?)?;
+        let types = types_in(method_at(plan, method));
+        frames.push(entry_frame(alloc, method, types, args)?)?;
+        self.in_call = true;
+        self.entry = method;
+        self.block = block;
+        self.turns = 0;
+        self.machine.frames = frames;
+        self.machine.base = 0;
+        Ok(())
+    }
+
+    /// Opens a call that the other end began.
+    pub fn attend(&mut self)
+        requires side { self.old.side ≡ Db }
+        requires closed { self.old.in_call ≡ false }
+        ensures { self.new ≡ attended self.old }
+    {
+        self.in_call = true;
+        self.machine.frames.clear();
+        self.machine.base = 0;
+    }
+
+    /// Runs the present block, if it is at this side. After want of memory only `roll_back` may follow.
+    pub fn run_block(&mut self, alloc: Global) -> Result<Step, AllocError>
+        requires { self.old.in_call ≡ true }
+        ensures answer { IfOk result (λ step. step ≡ (block_run self.old).answer) }
+        ensures after { OnOk result (self.new ≡ (block_run self.old).after) }
+        ensures closed { self.new.closed ≡ self.old.closed }
+    {
+        let plan = plan_at(&self.plans, self.part);
+        match block_at(plan, self.block) {
+            None => Ok(without_block(self.side, self.block)),
+            Some(block) => {
+                if block.side != self.side {
+                    return Ok(Step::Cross);
+                }
+                match self.machine.run(alloc, block.statements.as_slice()) {
+                    Ok(flow) => {
+                        self.block = next_block(block.exit, flow);
+                        if side_of_block(plan, self.block) == self.side {
+                            Ok(Step::Next)
+                        } else {
+                            Ok(Step::Cross)
+                        }
+                    }
+                    Err(Stop::Threw(thrown)) => Ok(Step::Threw(thrown)),
+                    Err(Stop::NoMemory) => Err(AllocError),
+                }
+            }
+        }
+    }
+
+    /// The reply of a call that has ended.
+    pub fn shown(&self, alloc: Global) -> Result<Shown, AllocError>
+        ensures reply { IfOk result (λ s. s.reply ≡ reply_at self.now) }
+        ensures prints { IfOk result (λ s. s.prints ≡ []) }
+    {
+        let gives = match method_at(plan_at(&self.plans, self.part), self.entry) {
+            Some(method) => method.gives,
+            None => None,
+        };
+        let reply = match gives {
+            None => Reply::Void,
+            Some(_) => Reply::Value(slot_at(alloc, self.machine.frames.as_slice(), 0, 0)?),
+        };
+        Ok(Shown {
+            reply,
+            prints: Items::new(alloc),
+        })
+    }
+
+    /// Keeps what was done since the last close, and closes an open call. Takes no memory.
+    pub fn close(&mut self)
+        ensures { self.new ≡ closed_now self.old }
+    {
+        self.machine.undo.clear();
+        self.rest();
+    }
+
+    /// Takes back what was done since the last close, and closes an open call. Takes no memory.
+    pub fn roll_back(&mut self)
+        ensures { self.new ≡ rolled_back self.old }
+    {
+        take_back(&mut self.machine.heap, &mut self.machine.undo);
+        self.rest();
+    }
+
+    // No call is open, and both ends know the heap.
+    fn rest(&mut self)
+        ensures { self.new ≡ record (rested self.old.machine.heap self.old) { closed = self.old.closed } }
+    {
+        self.machine.frames.clear();
+        self.machine.base = 0;
+        self.machine.marks.clear();
+        self.machine.named.clear();
+        self.in_call = false;
+        self.known = self.machine.heap.len();
+    }
 }

@@ -1,8 +1,12 @@
 //! One end of a session: its heap, its copy of the stack, and what it has written since control came.
 #![tactic(auto)]
 
+mod entering;
+mod first_heap;
 mod half;
 mod machine;
+mod next;
+mod plans;
 mod stack;
 mod step;
 mod stop;

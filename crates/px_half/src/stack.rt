@@ -24,8 +24,8 @@ fn slot_value(alloc: Global, slots: &[Slot], slot: u16) -> Result<Value, AllocEr
     }
 }
 
-// The slots of a frame, none where there is no frame.
-fn frame_slot(
+/// The value of a slot; null where there is none.
+pub fn slot_at(
     alloc: Global,
     frames: &[Frame],
     frame: usize,
@@ -44,7 +44,7 @@ pub fn operand(alloc: Global, frames: &[Frame], operand: &Operand) -> Result<Val
     ensures { IfOk result (λ v. v ≡ operand_of (top_values frames.now) operand.now) }
 {
     match operand {
-        Operand::Slot(slot) => frame_slot(alloc, frames, top(frames), *slot),
+        Operand::Slot(slot) => slot_at(alloc, frames, top(frames), *slot),
         Operand::Literal(value) => value.copy(alloc),
     }
 }

@@ -9,11 +9,7 @@ use std::alloc::AllocError;
 #[derive(Drop)]
 pub enum Change {
     /// The value that stood in a cell.
-    Wrote {
-        object: u32,
-        index: u32,
-        old: Value,
-    },
+    Wrote { object: u32, index: u32, old: Value },
     /// The last object is new.
     Made,
 }
