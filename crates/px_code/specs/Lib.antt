@@ -1,3 +1,4 @@
 pub mod Act
 pub mod CodeRun
 pub mod Machine
+pub mod Slots

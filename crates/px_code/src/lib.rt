@@ -22,7 +22,7 @@ pub use cell::{Cell, Keep, Part, SitePart};
 pub use class::{Class, Field};
 pub use code::{Code, Site};
 pub use counts::{Counts, MethodCount, StatementCount};
-pub use frame::{Frame, Slot};
+pub use frame::{Frame, Slot, Slots};
 pub use method::{Method, Tree};
 pub use node::{Counter, Node, NodeKind};
 pub use placement::{Pins, Placement};
