@@ -36,8 +36,10 @@ updates_reads =
     (then_goes {K = λ (u : Updates). ⊤} (λ u. u.headers) _ (counted_reads header_reads) (λ headers.
     last_goes {K = λ (u : Updates). ⊤ × (u.headers ≡ headers)} (λ u. u.cells) (updates_of headers) cells_reads (λ cells. (tt, refl)) (λ cells. refl) (λ u known. ap (λ hs. updates_of hs u.cells) (sym known.1))))
     (λ u. simp append_assoc)
-    (λ u f. (record { headers = f.0.1; cells = all_firsts CellIsInRange (λ c. HasShortText c.value) u.cells f.1.0.1 },
-        record { headers_counted = f.0.0; cells_counted = f.1.0.0; texts = all_seconds CellIsInRange (λ c. HasShortText c.value) u.cells f.1.0.1; in_order = f.1.1 }))
+    (λ u f. (
+      record { headers = f.0.1; cells = all_firsts CellIsInRange (λ c. HasShortText c.value) u.cells f.1.0.1 },
+      record { headers_counted = f.0.0; cells_counted = f.1.0.0; texts = all_seconds CellIsInRange (λ c. HasShortText c.value) u.cells f.1.0.1; in_order = f.1.1 },
+    ))
     (λ u f. ((f.1.headers_counted, f.0.headers), ((f.1.cells_counted, all_both CellIsInRange (λ c. HasShortText c.value) u.cells f.0.cells f.1.texts), f.1.in_order)))
 
 -- ---- transfers
@@ -82,8 +84,10 @@ transfer_reads =
     then_goes {K = Known4 block turns base frames} (λ t. t.slots) _ slots_reads (λ slots.
     last_goes {K = Known5 block turns base frames slots} (λ t. t.updates) (transfer_of block turns base frames slots) updates_reads (λ updates. (((((tt, refl), refl), refl), refl), refl)) (λ updates. refl) (made_again block turns base frames slots)))))))
     (λ t. simp append_assoc)
-    (λ t f. (record { block = f.0; turns = f.1.0; base = f.1.1.0; frames = f.1.1.1.0.1; slots = all_firsts SlotIsInRange (λ s. HasShortText s.value) t.slots f.1.1.1.1.0.0.1; updates = f.1.1.1.1.1.0 },
-        record { frames_counted = f.1.1.1.0.0; slots_counted = f.1.1.1.1.0.0.0; texts = all_seconds SlotIsInRange (λ s. HasShortText s.value) t.slots f.1.1.1.1.0.0.1; in_order = f.1.1.1.1.0.1; updates = f.1.1.1.1.1.1 }))
+    (λ t f. (
+      record { block = f.0; turns = f.1.0; base = f.1.1.0; frames = f.1.1.1.0.1; slots = all_firsts SlotIsInRange (λ s. HasShortText s.value) t.slots f.1.1.1.1.0.0.1; updates = f.1.1.1.1.1.0 },
+      record { frames_counted = f.1.1.1.0.0; slots_counted = f.1.1.1.1.0.0.0; texts = all_seconds SlotIsInRange (λ s. HasShortText s.value) t.slots f.1.1.1.1.0.0.1; in_order = f.1.1.1.1.0.1; updates = f.1.1.1.1.1.1 },
+    ))
     (λ t f. (f.0.block, (f.0.turns, (f.0.base, ((f.1.frames_counted, f.0.frames), (((f.1.slots_counted, all_both SlotIsInRange (λ s. HasShortText s.value) t.slots f.0.slots f.1.texts), f.1.in_order), (f.0.updates, f.1.updates)))))))
 
 -- ---- messages

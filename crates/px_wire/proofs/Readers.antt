@@ -57,7 +57,7 @@ then_goes {A} {C} {F} {s} {r} {K} {G} {t} first k reads goes = record {
       let q = (goes a.0.0).taken a.0.1 x p.rest a.2 in
       let same : first x.0 ≡ a.0.0 = q.1.1 in
       let parts : bytes ≡ (s (first x.0) ++ t x.0) ++ x.1 =
-          p.parts ∙ ap (λ y. s a.0.0 ++ y) q.0.parts ∙ ap (λ z. s z ++ (t x.0 ++ x.1)) (sym same) ∙ sym (append_assoc (s (first x.0)) (t x.0) x.1) in
+      p.parts ∙ ap (λ y. s a.0.0 ++ y) q.0.parts ∙ ap (λ z. s z ++ (t x.0 ++ x.1)) (sym same) ∙ sym (append_assoc (s (first x.0)) (t x.0) x.1) in
       (record { parts = parts; rest = q.0.rest; fits = (subst F (sym same) p.fits, q.0.fits) }, q.1.0);
 }
 
