@@ -33,8 +33,8 @@ updates_reads : Reads UpdatesFit updates_bytes updates_at
 unfolding updates_at
 updates_reads =
     reads_of UpdatesFit updates_bytes
-    (then_goes {K = λ (u : Updates). ⊤} (λ u. u.headers) _ (counted_reads header_reads) (λ headers.
-    last_goes {K = λ (u : Updates). ⊤ × (u.headers ≡ headers)} (λ u. u.cells) (updates_of headers) cells_reads (λ cells. (tt, refl)) (λ cells. refl) (λ u known. ap (λ hs. updates_of hs u.cells) (sym known.1))))
+    (then_goes (λ u. u.headers) _ (counted_reads header_reads) (λ headers.
+    last_goes (λ u. u.cells) (updates_of headers) cells_reads (λ cells. (tt, refl)) (λ cells. refl) (λ u known. ap (λ hs. updates_of hs u.cells) (sym known.1))))
     (λ u. simp append_assoc)
     (λ u f. (
       record { headers = f.0.1; cells = all_firsts CellIsInRange (λ c. HasShortText c.value) u.cells f.1.0.1 },
@@ -77,12 +77,12 @@ transfer_reads : Reads TransferFits transfer_bytes transfer_at
 unfolding transfer_at
 transfer_reads =
     reads_of TransferFits transfer_bytes
-    (then_goes {K = λ (t : TransferData). ⊤} (λ t. t.block) _ u32_reads (λ block.
-    then_goes {K = Known1 block} (λ t. t.turns) _ u32_reads (λ turns.
-    then_goes {K = Known2 block turns} (λ t. t.base) _ u8_reads (λ base.
-    then_goes {K = Known3 block turns base} (λ t. t.frames) _ frames_reads (λ frames.
-    then_goes {K = Known4 block turns base frames} (λ t. t.slots) _ slots_reads (λ slots.
-    last_goes {K = Known5 block turns base frames slots} (λ t. t.updates) (transfer_of block turns base frames slots) updates_reads (λ updates. (((((tt, refl), refl), refl), refl), refl)) (λ updates. refl) (made_again block turns base frames slots)))))))
+    (then_goes (λ t. t.block) _ u32_reads (λ block.
+    then_goes (λ t. t.turns) _ u32_reads (λ turns.
+    then_goes (λ t. t.base) _ u8_reads (λ base.
+    then_goes (λ t. t.frames) _ frames_reads (λ frames.
+    then_goes (λ t. t.slots) _ slots_reads (λ slots.
+    last_goes (λ t. t.updates) (transfer_of block turns base frames slots) updates_reads (λ updates. (((((tt, refl), refl), refl), refl), refl)) (λ updates. refl) (made_again block turns base frames slots)))))))
     (λ t. simp append_assoc)
     (λ t f. (
       record { block = f.0; turns = f.1.0; base = f.1.1.0; frames = f.1.1.1.0.1; slots = all_firsts SlotIsInRange (λ s. HasShortText s.value) t.slots f.1.1.1.1.0.0.1; updates = f.1.1.1.1.1.0 },

@@ -30,8 +30,8 @@ pub frame_reads : Reads FrameIsInRange frame_bytes frame_at
 unfolding frame_at
 frame_reads =
     reads_of FrameIsInRange frame_bytes
-    (then_goes {K = λ (f : Frame). ⊤} (λ f. f.method) _ u16_reads (λ method.
-    last_goes {K = λ (f : Frame). ⊤ × (f.method ≡ method)} (λ f. f.back) (frame_of method) u32_reads (λ back. (tt, refl)) (λ back. refl) (λ f known. ap (λ m. frame_of m f.back) (sym known.1))))
+    (then_goes (λ f. f.method) _ u16_reads (λ method.
+    last_goes (λ f. f.back) (frame_of method) u32_reads (λ back. (tt, refl)) (λ back. refl) (λ f known. ap (λ m. frame_of m f.back) (sym known.1))))
     (λ f. refl)
     (λ f h. record { method = h.0; back = h.1 }) (λ f h. (h.method, h.back))
 
@@ -85,9 +85,9 @@ pub header_reads : Reads HeaderIsInRange header_bytes header_at
 unfolding header_at
 header_reads =
     reads_of HeaderIsInRange header_bytes
-    (then_goes {K = λ (h : Header). ⊤} (λ h. h.kind) _ kind_reads (λ kind.
-    then_goes {K = λ (h : Header). ⊤ × (h.kind ≡ kind)} (λ h. h.site) _ u16_reads (λ site.
-    last_goes {K = λ (h : Header). (⊤ × (h.kind ≡ kind)) × (h.site ≡ site)} (λ h. h.length) (header_of kind site) u32_reads (λ count. ((tt, refl), refl)) (λ count. refl)
+    (then_goes (λ h. h.kind) _ kind_reads (λ kind.
+    then_goes (λ h. h.site) _ u16_reads (λ site.
+    last_goes (λ h. h.length) (header_of kind site) u32_reads (λ count. ((tt, refl), refl)) (λ count. refl)
     (λ h known. ap (λ k. header_of k site h.length) (sym known.0.1) ∙ ap (λ n. header_of h.kind n h.length) (sym known.1)))))
     (λ h. simp append_assoc)
     (λ h f. record { kind = f.0; site = f.1.0; count = f.1.1 }) (λ h f. (f.kind, (f.site, f.count)))
@@ -104,9 +104,9 @@ slot_reads : Reads SlotFits slot_bytes slot_at
 unfolding slot_at
 slot_reads =
     reads_of SlotFits slot_bytes
-    (then_goes {K = λ (s : SlotAt). ⊤} (λ s. s.frame) _ u16_reads (λ frame.
-    then_goes {K = λ (s : SlotAt). ⊤ × (s.frame ≡ frame)} (λ s. s.slot) _ u16_reads (λ slot.
-    last_goes {K = λ (s : SlotAt). (⊤ × (s.frame ≡ frame)) × (s.slot ≡ slot)} (λ s. s.value) (slot_of frame slot) value_reads (λ value. ((tt, refl), refl)) (λ value. refl)
+    (then_goes (λ s. s.frame) _ u16_reads (λ frame.
+    then_goes (λ s. s.slot) _ u16_reads (λ slot.
+    last_goes (λ s. s.value) (slot_of frame slot) value_reads (λ value. ((tt, refl), refl)) (λ value. refl)
     (λ s known. ap (λ n. slot_of n slot s.value) (sym known.0.1) ∙ ap (λ n. slot_of s.frame n s.value) (sym known.1)))))
     (λ s. simp append_assoc)
     (λ s f. (record { frame = f.0; slot = f.1.0; value = f.1.1.0 }, f.1.1.1)) (λ s f. (f.0.frame, (f.0.slot, (f.0.value, f.1))))
@@ -127,9 +127,9 @@ cell_reads : Reads CellFits cell_bytes cell_at
 unfolding cell_at
 cell_reads =
     reads_of CellFits cell_bytes
-    (then_goes {K = λ (c : CellAt). ⊤} (λ c. c.object) _ u32_reads (λ object.
-    then_goes {K = λ (c : CellAt). ⊤ × (c.object ≡ object)} (λ c. c.index) _ u32_reads (λ index.
-    last_goes {K = λ (c : CellAt). (⊤ × (c.object ≡ object)) × (c.index ≡ index)} (λ c. c.value) (cell_of object index) value_reads (λ value. ((tt, refl), refl)) (λ value. refl)
+    (then_goes (λ c. c.object) _ u32_reads (λ object.
+    then_goes (λ c. c.index) _ u32_reads (λ index.
+    last_goes (λ c. c.value) (cell_of object index) value_reads (λ value. ((tt, refl), refl)) (λ value. refl)
     (λ c known. ap (λ n. cell_of n index c.value) (sym known.0.1) ∙ ap (λ n. cell_of c.object n c.value) (sym known.1)))))
     (λ c. simp append_assoc)
     (λ c f. (record { object = f.0; index = f.1.0; value = f.1.1.0 }, f.1.1.1)) (λ c f. (f.0.object, (f.0.index, (f.0.value, f.1))))
