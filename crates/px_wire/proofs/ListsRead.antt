@@ -1,12 +1,14 @@
 -- Lists are read as they are spelled.
-use Rattle.std.proofs.Common.{◌≡◌, ℕ, zero, suc, ◌+◌, ◌^◌, ◌<◌, Bool, true, false, List, [], ◌∷◌, ◌++◌, length, Option, Some, None, refl, sym, ap, subst, ◌∙◌, append_assoc}
+use Rattle.std.proofs.Common.{◌≡◌, ℕ, zero, suc, ◌+◌, ◌^◌, ◌<◌, Bool, true, false, List, [], ◌∷◌, ◌++◌, length, map, Option, Some, None, refl, sym, ap, subst, ◌∙◌, append_assoc}
 use Rattle.std.specs.List.{flat_map, AllByRecursion}
 use Rattle.std.proofs.lemmas.List.Concat.{flat_map-cons}
 use Rattle.px_wire.specs.Numbers.{u32_bytes}
 use Rattle.px_wire.specs.Spelling.{counted_bytes}
-use Rattle.px_wire.specs.Reading.{◌>>=◌, u8_at, u32_at, items_at, counted_at}
-use Rattle.px_wire.proofs.Readers.{IsBytes, Taken, Reads, bind_some, some_is}
+use Rattle.px_wire.specs.Reading.{◌>>=◌, u8_at, u32_at, items_at, counted_at, ordered_at}
+use Rattle.px_wire.proofs.Readers.{IsBytes, Taken, Reads, bind_some, some_is, tested}
+use Rattle.px_wire.specs.Order.{AreInOrder, are_in_order}
 use Rattle.px_wire.proofs.NumbersRead.{u8_reads, u32_reads}
+use Rattle.px_wire.proofs.Ordered.{in_order-true, true-in_order}
 
 -- of two facts on each item, each
 pub all_firsts : {A : Type 0} (P Q : A → Type 0) (items : List A) → AllByRecursion (λ a. P a × Q a) items → AllByRecursion P items
@@ -63,3 +65,7 @@ counted_reads reads = behind_count u32_reads reads
 
 pub short_reads : {A : Type 0} {F : A → Type 0} {s : A → List ℕ} {r : List ℕ → Option (A × List ℕ)} → Reads F s r → Reads (λ items. (length items < 2 ^ 8) × AllByRecursion F items) (λ items. length items ∷ flat_map s items) (λ bytes. u8_at bytes >>= λ count. items_at r count.0 count.1)
 short_reads reads = behind_count u8_reads reads
+
+pub ordered_reads : {A : Type 0} {F : A → Type 0} {s : A → List ℕ} {r : List ℕ → Option (A × List ℕ)} (place : A → ℕ × ℕ) → Reads F s r → Reads (λ items. ((length items < 2 ^ 32) × AllByRecursion F items) × AreInOrder (map place items)) (counted_bytes s) (ordered_at place r)
+unfolding ordered_at
+ordered_reads place reads = tested (λ items. are_in_order (map place items)) (λ items. AreInOrder (map place items)) (λ items. in_order-true (map place items)) (λ items. true-in_order (map place items)) (counted_reads reads)

@@ -12,14 +12,13 @@ use Rattle.px_wire.specs.declared.slot.SlotAt.{SlotAt}
 use Rattle.px_wire.specs.declared.cell.CellAt.{CellAt}
 use Rattle.px_wire.specs.Numbers.{u16_bytes, u32_bytes}
 use Rattle.px_wire.specs.Spelling.{value_bytes, kind_bytes, header_bytes, frame_bytes, slot_bytes, cell_bytes, counted_bytes, frames_bytes}
-use Rattle.px_wire.specs.Order.{AreInOrder, are_in_order, slot_place, cell_place}
+use Rattle.px_wire.specs.Order.{AreInOrder, slot_place, cell_place}
 use Rattle.px_wire.specs.Fitting.{HasShortText, ValueIsInRange, KindIsInRange, HeaderIsInRange, FrameIsInRange, SlotIsInRange, CellIsInRange}
-use Rattle.px_wire.specs.Reading.{◌>>=◌, u8_at, u16_at, u32_at, value_at, kind_of, kind_at, header_at, frame_at, slot_at, cell_at, items_at, counted_at, slots_at, cells_at, frames_at}
-use Rattle.px_wire.proofs.Readers.{IsBytes, Taken, Reads, Goes, bind_some, some_is, chosen, guard_some, then_goes, last_goes, reads_of, tested}
+use Rattle.px_wire.specs.Reading.{◌>>=◌, u8_at, u16_at, u32_at, value_at, kind_of, kind_at, header_at, frame_at, slot_at, cell_at, items_at, ordered_at, frames_at}
+use Rattle.px_wire.proofs.Readers.{IsBytes, Taken, Reads, Goes, bind_some, some_is, chosen, guard_some, then_goes, last_goes, reads_of}
 use Rattle.px_wire.proofs.NumbersRead.{IsBytes-rest, u8_reads, u16_reads, u32_reads}
 use Rattle.px_wire.proofs.ValuesRead.{ValueFits, value_reads}
-use Rattle.px_wire.proofs.Ordered.{in_order-true, true-in_order}
-use Rattle.px_wire.proofs.ListsRead.{counted_reads, short_reads}
+use Rattle.px_wire.proofs.ListsRead.{ordered_reads, short_reads}
 
 -- ---- frames
 
@@ -111,9 +110,8 @@ slot_reads =
     (λ s. simp append_assoc)
     (λ s f. (record { frame = f.0; slot = f.1.0; value = f.1.1.0 }, f.1.1.1)) (λ s f. (f.0.frame, (f.0.slot, (f.0.value, f.1))))
 
-pub slots_reads : Reads (λ slots. ((length slots < 2 ^ 32) × AllByRecursion SlotFits slots) × AreInOrder (map slot_place slots)) (counted_bytes slot_bytes) slots_at
-unfolding slots_at
-slots_reads = tested (λ slots. are_in_order (map slot_place slots)) (λ slots. AreInOrder (map slot_place slots)) (λ slots. in_order-true (map slot_place slots)) (λ slots. true-in_order (map slot_place slots)) (counted_reads slot_reads)
+pub slots_reads : Reads (λ slots. ((length slots < 2 ^ 32) × AllByRecursion SlotFits slots) × AreInOrder (map slot_place slots)) (counted_bytes slot_bytes) (ordered_at slot_place slot_at)
+slots_reads = ordered_reads slot_place slot_reads
 
 -- ---- cells
 
@@ -134,6 +132,5 @@ cell_reads =
     (λ c. simp append_assoc)
     (λ c f. (record { object = f.0; index = f.1.0; value = f.1.1.0 }, f.1.1.1)) (λ c f. (f.0.object, (f.0.index, (f.0.value, f.1))))
 
-pub cells_reads : Reads (λ cells. ((length cells < 2 ^ 32) × AllByRecursion CellFits cells) × AreInOrder (map cell_place cells)) (counted_bytes cell_bytes) cells_at
-unfolding cells_at
-cells_reads = tested (λ cells. are_in_order (map cell_place cells)) (λ cells. AreInOrder (map cell_place cells)) (λ cells. in_order-true (map cell_place cells)) (λ cells. true-in_order (map cell_place cells)) (counted_reads cell_reads)
+pub cells_reads : Reads (λ cells. ((length cells < 2 ^ 32) × AllByRecursion CellFits cells) × AreInOrder (map cell_place cells)) (counted_bytes cell_bytes) (ordered_at cell_place cell_at)
+cells_reads = ordered_reads cell_place cell_reads

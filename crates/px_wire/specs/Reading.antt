@@ -171,15 +171,11 @@ counted_at item_at bytes = do
   count ← u32_at bytes
   items_at item_at count.0 count.1
 
-unfoldable pub slots_at : List ℕ → Option (List SlotAt × List ℕ)
-slots_at bytes = do
-  slots ← counted_at slot_at bytes
-  if are_in_order (map slot_place slots.0) then Some slots else None
-
-unfoldable pub cells_at : List ℕ → Option (List CellAt × List ℕ)
-cells_at bytes = do
-  cells ← counted_at cell_at bytes
-  if are_in_order (map cell_place cells.0) then Some cells else None
+-- items in order of their places
+unfoldable pub ordered_at : {A : Type 0} → (A → ℕ × ℕ) → (List ℕ → Option (A × List ℕ)) → List ℕ → Option (List A × List ℕ)
+ordered_at place item_at bytes = do
+  items ← counted_at item_at bytes
+  if are_in_order (map place items.0) then Some items else None
 
 unfoldable pub frames_at : List ℕ → Option (List Frame × List ℕ)
 frames_at bytes = do
@@ -189,7 +185,7 @@ frames_at bytes = do
 unfoldable pub updates_at : List ℕ → Option (Updates × List ℕ)
 updates_at bytes = do
   headers ← counted_at header_at bytes
-  cells ← cells_at headers.1
+  cells ← ordered_at cell_place cell_at headers.1
   Some (record { headers = headers.0; cells = cells.0 }, cells.1)
 
 unfoldable pub transfer_at : List ℕ → Option (TransferData × List ℕ)
@@ -198,7 +194,7 @@ transfer_at bytes = do
   turns ← u32_at block.1
   base ← u8_at turns.1
   frames ← frames_at base.1
-  slots ← slots_at frames.1
+  slots ← ordered_at slot_place slot_at frames.1
   updates ← updates_at slots.1
   Some (record { block = block.0; turns = turns.0; base = base.0; frames = frames.0; slots = slots.0; updates = updates.0 }, updates.1)
 

@@ -2,9 +2,11 @@
 ghost use Rattle.std.specs.Prelude.{◌≡◌, ◌++◌, OnOk};
 ghost use Rattle.px_wire.specs.Spelling.{cell_bytes};
 ghost use Rattle.px_wire.specs.Fitting.{HasShortText, CellIsInRange};
+ghost use Rattle.px_wire.specs.Order.{cell_place};
 ghost use Rattle.px_wire.specs.Reading.{cell_at};
 
 use crate::number::{put_u32, take_u32};
+use crate::order::Placed;
 use crate::part::Part;
 use crate::unread::Unread;
 use crate::value::{put_value, take_value};
@@ -47,5 +49,13 @@ impl Part for CellAt {
             },
             rest,
         ))
+    }
+}
+
+impl Placed for CellAt {
+    ghost place_of = { cell_place };
+
+    fn place(&self) -> (u32, u32) {
+        (self.object, self.index)
     }
 }

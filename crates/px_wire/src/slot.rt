@@ -2,9 +2,11 @@
 ghost use Rattle.std.specs.Prelude.{◌≡◌, ◌++◌, OnOk};
 ghost use Rattle.px_wire.specs.Spelling.{slot_bytes};
 ghost use Rattle.px_wire.specs.Fitting.{HasShortText, SlotIsInRange};
+ghost use Rattle.px_wire.specs.Order.{slot_place};
 ghost use Rattle.px_wire.specs.Reading.{slot_at};
 
 use crate::number::{put_u16, take_u16};
+use crate::order::Placed;
 use crate::part::Part;
 use crate::unread::Unread;
 use crate::value::{put_value, take_value};
@@ -40,5 +42,13 @@ impl Part for SlotAt {
         let (slot, rest) = take_u16(rest)?;
         let (value, rest) = take_value(alloc, rest)?;
         Ok((SlotAt { frame, slot, value }, rest))
+    }
+}
+
+impl Placed for SlotAt {
+    ghost place_of = { slot_place };
+
+    fn place(&self) -> (u32, u32) {
+        (u32::from(self.frame), u32::from(self.slot))
     }
 }

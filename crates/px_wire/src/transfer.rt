@@ -3,12 +3,12 @@ ghost use Rattle.std.specs.Prelude.{◌≡◌, ◌<◌, ◌^◌, ◌++◌, OnOk,
 ghost use Rattle.std.specs.List.{AllByRecursion};
 ghost use Rattle.px_wire.specs.Spelling.{frames_bytes, transfer_bytes};
 ghost use Rattle.px_wire.specs.Fitting.{FrameIsInRange, TransferHasSpelling, TransferIsInRange};
-ghost use Rattle.px_wire.specs.Reading.{Gives, frames_at, slots_at, transfer_at};
+ghost use Rattle.px_wire.specs.Reading.{Gives, frames_at, transfer_at};
 
 use crate::frame::Frame;
 use crate::number::{put_u32, take_u8, take_u32};
-use crate::order::slots_in_order;
-use crate::part::{put_counted, put_items, take_counted, take_items};
+use crate::order::take_ordered;
+use crate::part::{put_counted, put_items, take_items};
 use crate::slot::SlotAt;
 use crate::unread::Unread;
 use crate::updates::{Updates, put_updates, take_updates};
@@ -59,17 +59,6 @@ fn take_frames(alloc: Global, from: &[u8]) -> Result<(Items<Frame>, &[u8]), Unre
     take_items::<Frame>(alloc, u32::from(count), rest)
 }
 
-#[tactic(auto, unfolding(crate::specs::Reading::slots_at))]
-fn take_slots(alloc: Global, from: &[u8]) -> Result<(Items<SlotAt>, &[u8]), Unread>
-    ensures { Gives (λ x. (x.0, x.1.now)) result (slots_at from.now) }
-{
-    let (slots, rest) = take_counted::<SlotAt>(alloc, from)?;
-    if !slots_in_order(slots.as_slice()) {
-        return Err(Unread::NoMessage);
-    }
-    Ok((slots, rest))
-}
-
 #[tactic(auto, unfolding(crate::specs::Reading::transfer_at))]
 pub(crate) fn take_transfer(alloc: Global, from: &[u8]) -> Result<(Transfer, &[u8]), Unread>
     ensures { Gives (λ x. (x.0, x.1.now)) result (transfer_at from.now) }
@@ -78,7 +67,7 @@ pub(crate) fn take_transfer(alloc: Global, from: &[u8]) -> Result<(Transfer, &[u
     let (turns, rest) = take_u32(rest)?;
     let (base, rest) = take_u8(rest)?;
     let (frames, rest) = take_frames(alloc, rest)?;
-    let (slots, rest) = take_slots(alloc, rest)?;
+    let (slots, rest) = take_ordered::<SlotAt>(alloc, rest)?;
     let (updates, rest) = take_updates(alloc, rest)?;
     let transfer = Transfer {
         block,

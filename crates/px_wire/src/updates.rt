@@ -2,10 +2,10 @@
 ghost use Rattle.std.specs.Prelude.{◌≡◌, ◌++◌, OnOk};
 ghost use Rattle.px_wire.specs.Spelling.{updates_bytes};
 ghost use Rattle.px_wire.specs.Fitting.{UpdatesHaveSpelling, UpdatesAreInRange};
-ghost use Rattle.px_wire.specs.Reading.{Gives, cells_at, updates_at};
+ghost use Rattle.px_wire.specs.Reading.{Gives, updates_at};
 
 use crate::cell::CellAt;
-use crate::order::cells_in_order;
+use crate::order::take_ordered;
 use crate::part::{put_counted, take_counted};
 use crate::unread::Unread;
 use px_value::Header;
@@ -29,22 +29,11 @@ pub(crate) fn put_updates(out: &mut Vec<u8>, updates: &Updates) -> Result<(), Al
     put_counted(out, updates.cells.as_slice())
 }
 
-#[tactic(auto, unfolding(crate::specs::Reading::cells_at))]
-fn take_cells(alloc: Global, from: &[u8]) -> Result<(Items<CellAt>, &[u8]), Unread>
-    ensures { Gives (λ x. (x.0, x.1.now)) result (cells_at from.now) }
-{
-    let (cells, rest) = take_counted::<CellAt>(alloc, from)?;
-    if !cells_in_order(cells.as_slice()) {
-        return Err(Unread::NoMessage);
-    }
-    Ok((cells, rest))
-}
-
 #[tactic(auto, unfolding(crate::specs::Reading::updates_at))]
 pub(crate) fn take_updates(alloc: Global, from: &[u8]) -> Result<(Updates, &[u8]), Unread>
     ensures { Gives (λ x. (x.0, x.1.now)) result (updates_at from.now) }
 {
     let (headers, rest) = take_counted::<Header>(alloc, from)?;
-    let (cells, rest) = take_cells(alloc, rest)?;
+    let (cells, rest) = take_ordered::<CellAt>(alloc, rest)?;
     Ok((Updates { headers, cells }, rest))
 }
