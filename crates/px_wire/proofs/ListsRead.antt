@@ -1,10 +1,9 @@
 -- Lists are read as they are spelled.
-use Rattle.std.proofs.Common.{◌≡◌, ℕ, zero, suc, ◌+◌, ◌^◌, ◌<◌, Bool, true, false, List, [], ◌∷◌, ◌++◌, length, map, Option, Some, None, refl, sym, ap, subst, ◌∙◌, append_assoc}
+use Rattle.std.proofs.Common.{◌≡◌, ℕ, zero, suc, ◌^◌, ◌<◌, List, [], ◌∷◌, ◌++◌, length, map, Option, Some, refl, sym, ap, subst, ◌∙◌, append_assoc}
 use Rattle.std.specs.List.{flat_map, AllByRecursion}
 use Rattle.std.proofs.lemmas.List.Concat.{flat_map-cons}
-use Rattle.px_wire.specs.Numbers.{u32_bytes}
 use Rattle.px_wire.specs.Spelling.{counted_bytes}
-use Rattle.px_wire.specs.Reading.{◌>>=◌, u8_at, u32_at, items_at, counted_at, ordered_at}
+use Rattle.px_wire.specs.Reading.{◌>>=◌, u8_at, items_at, counted_at, ordered_at}
 use Rattle.px_wire.proofs.Readers.{IsBytes, Taken, Reads, bind_some, some_is, tested}
 use Rattle.px_wire.specs.Order.{AreInOrder, are_in_order}
 use Rattle.px_wire.proofs.NumbersRead.{u8_reads, u32_reads}

@@ -1,7 +1,6 @@
 -- Messages are read as they are spelled.
-use Rattle.std.proofs.Common.{◌≡◌, ℕ, ◌<◌, ◌^◌, ◌==◌, ◌↔◌, Bool, true, false, cond, eqb, List, [], ◌∷◌, ◌++◌, length, map, Option, Some, None, ◌⊎◌, inl, inr, refl, sym, ap, subst, ◌∙◌, append_assoc}
+use Rattle.std.proofs.Common.{◌≡◌, ℕ, ◌==◌, ◌↔◌, cond, eqb, List, [], ◌∷◌, ◌++◌, length, Option, Some, None, inl, inr, refl, sym, ap, subst, ◌∙◌, append_assoc}
 use Rattle.std.specs.Prelude.{⊤}
-use Rattle.std.specs.List.{flat_map, AllByRecursion}
 use Rattle.std.proofs.lemmas.Bool.{eqb-true}
 use Rattle.std.proofs.lemmas.List.{append-nil, nil_from_length}
 use Rattle.px_value.specs.declared.header.Header.{Header}
@@ -14,12 +13,12 @@ use Rattle.px_wire.specs.declared.message.Message.{Message}
 use Rattle.px_wire.specs.declared.message.Message.TheVariants.{Transfer, Commit}
 use Rattle.px_wire.specs.Spelling.{updates_bytes, transfer_bytes, spelling}
 use Rattle.px_wire.specs.Fitting.{HasShortText, HasSpelling, IsInRange, SlotIsInRange, CellIsInRange, UpdatesHaveSpelling, UpdatesAreInRange, TransferHasSpelling, TransferIsInRange}
-use Rattle.px_wire.specs.Reading.{◌>>=◌, u8_at, updates_at, transfer_at, transfer_message_at, commit_at, message_behind, message_at, message_of}
+use Rattle.px_wire.specs.Reading.{◌>>=◌, updates_at, transfer_at, transfer_message_at, commit_at, message_at, message_of}
 use Rattle.px_wire.specs.Wording.{SpellingsDiffer}
 use Rattle.px_wire.proofs.Readers.{IsBytes, Taken, Reads, bind_some, some_is, chosen, guard_some, then_goes, last_goes, reads_of}
 use Rattle.px_wire.proofs.NumbersRead.{IsBytes-rest, u8_reads, u32_reads}
 use Rattle.px_wire.proofs.ListsRead.{all_firsts, all_seconds, all_both, counted_reads}
-use Rattle.px_wire.proofs.PartsRead.{SlotFits, CellFits, header_reads, frames_reads, slots_reads, cells_reads}
+use Rattle.px_wire.proofs.PartsRead.{header_reads, frames_reads, slots_reads, cells_reads}
 
 -- ---- updates
 
@@ -138,9 +137,9 @@ message-again (Commit u) rest fits = ap (λ o. o >>= λ x. Some (Commit x.0, x.1
 
 -- ---- all of the bytes
 
-pub of-taken : (bytes : List ℕ) (m : Message) → IsBytes bytes → message_of bytes ≡ Some m → IsInRange m × HasSpelling m × (spelling m ≡ bytes)
+pub message_of-taken : (bytes : List ℕ) (m : Message) → IsBytes bytes → message_of bytes ≡ Some m → IsInRange m × HasSpelling m × (spelling m ≡ bytes)
 unfolding message_of
-of-taken bytes m fits e =
+message_of-taken bytes m fits e =
     let a = bind_some (message_at bytes) (λ x. cond (eqb (length x.1) 0) (Some x.0) None) m e in
     let g = guard_some (eqb (length a.0.1) 0) a.0.0 m a.2 in
     let p = message-taken bytes a.0 fits a.1 in
@@ -148,16 +147,16 @@ of-taken bytes m fits e =
     let whole : spelling a.0.0 ≡ bytes = sym (p.parts ∙ ap (λ r. spelling a.0.0 ++ r) nothing ∙ append-nil (spelling a.0.0)) in
     subst (λ (n : Message). IsInRange n × HasSpelling n × (spelling n ≡ bytes)) g.1 (p.fits.0, p.fits.1, whole)
 
-pub of-again : (bytes : List ℕ) (m : Message) → IsInRange m × HasSpelling m × (spelling m ≡ bytes) → message_of bytes ≡ Some m
+pub message_of-again : (bytes : List ℕ) (m : Message) → IsInRange m × HasSpelling m × (spelling m ≡ bytes) → message_of bytes ≡ Some m
 unfolding message_of
-of-again bytes m h =
+message_of-again bytes m h =
     let all : bytes ≡ spelling m ++ [] = sym h.2 ∙ sym (append-nil (spelling m)) in
     ap message_of all ∙ ap (λ o. o >>= λ x. cond (eqb (length x.1) 0) (Some x.0) None) (message-again m [] (h.0, h.1))
 
 -- what is read is the message that the bytes spell
-pub of-is : (bytes : List ℕ) → IsBytes bytes → (found : Option Message) → message_of bytes ≡ found → (m : Message) → (found ≡ Some m) ↔ (IsInRange m × HasSpelling m × (spelling m ≡ bytes))
-of-is bytes fits found e m = ((λ k. of-taken bytes m fits (e ∙ k)), (λ h. sym e ∙ of-again bytes m h))
+pub message_of-is : (bytes : List ℕ) → IsBytes bytes → (found : Option Message) → message_of bytes ≡ found → (m : Message) → (found ≡ Some m) ↔ (IsInRange m × HasSpelling m × (spelling m ≡ bytes))
+message_of-is bytes fits found e m = ((λ k. message_of-taken bytes m fits (e ∙ k)), (λ h. sym e ∙ message_of-again bytes m h))
 
 pub spellings_differ : SpellingsDiffer
 spellings_differ m n mr nr ms ns e =
-    some_is m n (sym (of-again (spelling m) m (mr, ms, refl)) ∙ of-again (spelling m) n (nr, ns, sym e))
+    some_is m n (sym (message_of-again (spelling m) m (mr, ms, refl)) ∙ message_of-again (spelling m) n (nr, ns, sym e))

@@ -1,7 +1,6 @@
 -- Parts are read as they are spelled.
-use Rattle.std.proofs.Common.{◌≡◌, ℕ, ◌<◌, ◌^◌, ◌==◌, Bool, true, false, cond, List, [], ◌∷◌, ◌++◌, length, map, Option, Some, None, ◌⊎◌, inl, inr, refl, sym, ap, subst, ◌∙◌, append_assoc}
-use Rattle.std.specs.Prelude.{⊤}
-use Rattle.std.specs.List.{flat_map, AllByRecursion}
+use Rattle.std.proofs.Common.{◌≡◌, ℕ, ◌<◌, ◌^◌, ◌==◌, cond, List, ◌∷◌, ◌++◌, length, map, Option, Some, None, inl, inr, refl, sym, ap, subst, ◌∙◌, append_assoc}
+use Rattle.std.specs.List.{AllByRecursion}
 use Rattle.std.proofs.lemmas.Bool.{eqb-true}
 use Rattle.px_value.specs.declared.value.Value.{Value}
 use Rattle.px_value.specs.declared.header.Header.{Header}
@@ -10,14 +9,14 @@ use Rattle.px_value.specs.declared.header.Kind.TheVariants.{Object, Array, Rows}
 use Rattle.px_wire.specs.declared.frame.Frame.{Frame}
 use Rattle.px_wire.specs.declared.slot.SlotAt.{SlotAt}
 use Rattle.px_wire.specs.declared.cell.CellAt.{CellAt}
-use Rattle.px_wire.specs.Numbers.{u16_bytes, u32_bytes}
-use Rattle.px_wire.specs.Spelling.{value_bytes, kind_bytes, header_bytes, frame_bytes, slot_bytes, cell_bytes, counted_bytes, frames_bytes}
+use Rattle.px_wire.specs.Numbers.{u16_bytes}
+use Rattle.px_wire.specs.Spelling.{kind_bytes, header_bytes, frame_bytes, slot_bytes, cell_bytes, counted_bytes, frames_bytes}
 use Rattle.px_wire.specs.Order.{AreInOrder, slot_place, cell_place}
-use Rattle.px_wire.specs.Fitting.{HasShortText, ValueIsInRange, KindIsInRange, HeaderIsInRange, FrameIsInRange, SlotIsInRange, CellIsInRange}
-use Rattle.px_wire.specs.Reading.{◌>>=◌, u8_at, u16_at, u32_at, value_at, kind_of, kind_at, header_at, frame_at, slot_at, cell_at, items_at, ordered_at, frames_at}
-use Rattle.px_wire.proofs.Readers.{IsBytes, Taken, Reads, Goes, bind_some, some_is, chosen, guard_some, then_goes, last_goes, reads_of}
-use Rattle.px_wire.proofs.NumbersRead.{IsBytes-rest, u8_reads, u16_reads, u32_reads}
-use Rattle.px_wire.proofs.ValuesRead.{ValueFits, value_reads}
+use Rattle.px_wire.specs.Fitting.{HasShortText, KindIsInRange, HeaderIsInRange, FrameIsInRange, SlotIsInRange, CellIsInRange}
+use Rattle.px_wire.specs.Reading.{◌>>=◌, u8_at, u16_at, kind_of, kind_at, header_at, frame_at, slot_at, cell_at, ordered_at, frames_at}
+use Rattle.px_wire.proofs.Readers.{IsBytes, Taken, Reads, bind_some, some_is, chosen, guard_some, then_goes, last_goes, reads_of}
+use Rattle.px_wire.proofs.NumbersRead.{u8_reads, u16_reads, u32_reads}
+use Rattle.px_wire.proofs.ValuesRead.{value_reads}
 use Rattle.px_wire.proofs.ListsRead.{ordered_reads, short_reads}
 
 -- ---- frames

@@ -12,7 +12,7 @@ use std::alloc::{AllocError, Global};
 #[derive(Clone, Copy, Debug, PartialEq, Eq)]
 pub struct Frame {
     pub method: u16,
-    /// The number of the block that ends in this frame's call.
+    /// The number of the block that ends in this frame's call, or 0 where none does.
     pub back: u32,
 }
 

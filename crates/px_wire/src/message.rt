@@ -6,6 +6,6 @@ use crate::updates::Updates;
 pub enum Message {
     /// The other end goes on with a block.
     Transfer(Transfer),
-    /// The call is over, and what it changed is to be kept.
+    /// The call is over, and what it did is kept.
     Commit(Updates),
 }

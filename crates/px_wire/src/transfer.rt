@@ -19,10 +19,11 @@ use std::alloc::{AllocError, Global};
 pub struct Transfer {
     /// The number of the block with which the other end goes on.
     pub block: u32,
-    /// How many turns of loops the call has taken so far.
+    /// Tests of loops and calls of methods so far in this call.
     pub turns: u32,
+    /// How many of the lowest frames stood when control came and weren't popped since.
     pub base: u8,
-    /// From the outermost to the innermost, at most 255.
+    /// The frames above those, the lowest first.
     pub frames: Items<Frame>,
     /// By frame and then by slot, each at most once.
     pub slots: Items<SlotAt>,
