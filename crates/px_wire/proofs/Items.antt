@@ -1,0 +1,44 @@
+-- Reading items one behind the other, as a loop does.
+use Rattle.std.proofs.Common.{◌≡◌, ℕ, suc, ◌-◌, ◌+◌, ◌≤◌, ◌<◌, List, [], ◌∷◌, ◌++◌, Option, Some, None, refl, sym, ap, ◌∙◌, append_assoc, arith}
+use Rattle.std.proofs.lemmas.List.{append-nil}
+use Rattle.std.specs.List.{AllByRecursion}
+use Rattle.px_wire.specs.declared.unread.Unread.{Unread}
+use Rattle.px_wire.specs.declared.unread.Unread.TheVariants.{NoMessage, NoMemory}
+use Rattle.px_wire.specs.Reading.{◌>>=◌, Fails, items_at}
+
+-- what was read before, and what is still read
+abbrev pub with_front : {A : Type 0} → List A → Option (List A × List ℕ) → Option (List A × List ℕ)
+with_front front read = read >>= λ x. Some (front ++ x.0, x.1)
+
+regroup : {A : Type 0} (front : List A) (a : A) (read : Option (List A × List ℕ)) → with_front front (read >>= λ x. Some (a ∷ x.0, x.1)) ≡ with_front (front ++ a ∷ []) read
+regroup {A} front a (Some x) = ap (λ (items : List A). Some (items, x.1)) (simp append_assoc)
+regroup front a None = refl
+
+pub goes_on : {A : Type 0} (item_at : List ℕ → Option (A × List ℕ)) (front : List A) (count i : ℕ) (bytes : List ℕ) (a : A) (after : List ℕ) (total : Option (List A × List ℕ)) → i < count → item_at bytes ≡ Some (a, after)
+    → with_front front (items_at item_at (count - i) bytes) ≡ total → with_front (front ++ a ∷ []) (items_at item_at (count - (i + 1)) after) ≡ total
+unfolding items_at
+goes_on item_at front count i bytes a after total lt h so_far =
+    let k : count - i ≡ suc (count - (i + 1)) = omega arith in
+    let one : with_front front (items_at item_at (count - i) bytes) ≡ with_front (front ++ a ∷ []) (items_at item_at (count - (i + 1)) after) = rw (k, h) (regroup front a (items_at item_at (count - (i + 1)) after)) in
+    sym one ∙ so_far
+
+pub ends : {A : Type 0} (item_at : List ℕ → Option (A × List ℕ)) (e : Unread) (front : List A) (count i : ℕ) (bytes : List ℕ) (total : Option (List A × List ℕ)) → i < count → Fails e (item_at bytes)
+    → with_front front (items_at item_at (count - i) bytes) ≡ total → Fails e total
+unfolding items_at
+ends item_at NoMemory front count i bytes total lt h so_far = tt
+ends item_at NoMessage front count i bytes total lt h so_far =
+    let k : count - i ≡ suc (count - (i + 1)) = omega arith in
+    let one : with_front front (items_at item_at (count - i) bytes) ≡ None = rw (k, h) refl in
+    sym so_far ∙ one
+
+pub is_done : {A : Type 0} (item_at : List ℕ → Option (A × List ℕ)) (front : List A) (count i : ℕ) (bytes : List ℕ) (total : Option (List A × List ℕ)) → count ≤ i → with_front front (items_at item_at (count - i) bytes) ≡ total → total ≡ Some (front, bytes)
+unfolding items_at
+is_done {A} item_at front count i bytes total le so_far =
+    let k : count - i ≡ 0 = omega arith in
+    let one : with_front front (items_at item_at (count - i) bytes) ≡ Some (front, bytes) = rw k (ap (λ (items : List A). Some (items, bytes)) (append-nil front)) in
+    sym so_far ∙ one
+
+-- one item more
+pub all_more : {A : Type 0} (P : A → Type 0) (items : List A) (a : A) → AllByRecursion P items → P a → AllByRecursion P (items ++ a ∷ [])
+all_more P [] a all one = (one, tt)
+all_more P (b ∷ items) a all one = (all.0, all_more P items a all.1 one)
