@@ -1,3 +1,5 @@
 pub mod Undo
 pub mod Machine
 pub mod End
+pub mod Messages
+pub mod Absorbed

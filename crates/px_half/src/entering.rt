@@ -6,9 +6,8 @@ ghost use Rattle.px_code.specs.Machine.{just_written};
 ghost use Rattle.px_half.specs.End.{blank as blank_slot, root_frame as root, entry_slots as slots_of, types_of};
 ghost use Rattle.std.specs.Option.{option_copied};
 
-use px_code::{Frame, Method, Slot};
+use px_code::{Frame, Method, Slot, Slots};
 use px_value::{Ty, Value};
-use sqlite_items::Items;
 use std::alloc::{AllocError, Global};
 
 fn blank(value: Value) -> Slot
@@ -24,7 +23,7 @@ fn blank(value: Value) -> Slot
 pub fn root_frame(alloc: Global) -> Result<Frame, AllocError>
     ensures { IfOk result (λ f. f ≡ root) }
 {
-    let mut slots = Items::new(alloc);
+    let mut slots = Slots::new(alloc);
     slots.push(blank(Value::Null))?;
     Ok(Frame {
         method: 0,
@@ -33,7 +32,7 @@ pub fn root_frame(alloc: Global) -> Result<Frame, AllocError>
     })
 }
 
-fn push_written(alloc: Global, slots: &mut Items<Slot>, values: &[Value]) -> Result<(), AllocError>
+fn push_written(alloc: Global, slots: &mut Slots, values: &[Value]) -> Result<(), AllocError>
     ensures { OnOk result (slots.new ≡ slots.old ++ map just_written values.now) }
 {
     for value in values {
@@ -46,7 +45,7 @@ fn push_written(alloc: Global, slots: &mut Items<Slot>, values: &[Value]) -> Res
 }
 
 /// Slots of these types, unwritten.
-pub fn push_blanks(slots: &mut Items<Slot>, types: &[Ty]) -> Result<(), AllocError>
+pub fn push_blanks(slots: &mut Slots, types: &[Ty]) -> Result<(), AllocError>
     ensures { OnOk result (slots.new ≡ slots.old ++ map (λ t. blank_slot (default_of t)) types.now) }
 {
     for ty in types {
@@ -66,10 +65,10 @@ pub fn types_in(method: Option<&Method>) -> &[Ty]
 }
 
 // `this` and the arguments, written, and the other slots.
-fn entry_slots(alloc: Global, types: &[Ty], args: &[Value]) -> Result<Items<Slot>, AllocError>
+fn entry_slots(alloc: Global, types: &[Ty], args: &[Value]) -> Result<Slots, AllocError>
     ensures { IfOk result (λ slots. slots ≡ slots_of types.now (Ref 0 ∷ args.now)) }
 {
-    let mut slots = Items::new(alloc);
+    let mut slots = Slots::new(alloc);
     slots.push(Slot {
         value: Value::Ref(0),
         written: true,

@@ -1,6 +1,7 @@
 //! One end of a session: its heap, its copy of the stack, and what it has written since control came.
 #![tactic(auto)]
 
+mod carry;
 mod entering;
 mod first_heap;
 mod half;

@@ -55,11 +55,7 @@ pub fn fill(frames: &mut Vec<Frame>, frame: usize, slot: u16, value: Value)
 {
     let slot = usize::from(slot);
     if frame < frames.len() && slot < frames[frame].slots.len() {
-        let written = Slot {
-            value,
-            written: true,
-        };
-        frames[frame].slots.set(slot, written);
+        frames[frame].slots.fill(slot, value);
     }
 }
 
