@@ -1,2 +1,4 @@
 pub mod Undoes
 pub mod Stacks
+pub mod Telling
+pub mod NewObjects

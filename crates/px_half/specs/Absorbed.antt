@@ -1,5 +1,5 @@
 -- What an end takes in of a message.
-use Rattle.std.specs.Prelude.{◌≡◌, ℕ, zero, suc, ◌+◌, ◌==◌, nat_lt, nat_le, Bool, true, false, ◌&&◌, List, [], ◌∷◌, ◌++◌, map, take, length, replicate, Option, Some, None, is_some, slice_get, if◌then◌else◌}
+use Rattle.std.specs.Prelude.{◌≡◌, ℕ, zero, suc, ◌+◌, ◌-◌, ◌==◌, nat_lt, nat_le, Bool, true, false, ◌&&◌, ◌||◌, List, [], ◌∷◌, ◌++◌, map, take, length, replicate, Option, Some, None, is_some, slice_get, option_map, option_and_then, if◌then◌else◌}
 use Rattle.std.specs.List.{list_all}
 use Rattle.px_value.specs.declared.value.Value.{Value}
 use Rattle.px_value.specs.declared.value.Value.TheVariants.{Ref}
@@ -16,7 +16,6 @@ use Rattle.px_code.specs.declared.code.Code.{Code}
 use Rattle.px_code.specs.declared.frame.Frame.{Frame}
 use Rattle.px_code.specs.declared.frame.Slot.{Slot}
 use Rattle.px_code.specs.declared.plan.Plan.{Plan}
-use Rattle.px_code.specs.CodeRun.{method_at}
 use Rattle.px_code.specs.Slots.{all_settled}
 use Rattle.px_code.specs.Machine.{Machine, slots_at, filled}
 use Rattle.px_wire.specs.declared.frame.Frame.{Frame as FrameTold}
@@ -28,7 +27,7 @@ use Rattle.px_wire.specs.declared.message.Message.{Message}
 use Rattle.px_wire.specs.declared.message.Message.TheVariants.{Transfer, Commit}
 use Rattle.px_wire.specs.Fitting.{HasSpelling, IsInRange}
 use Rattle.px_wire.specs.Spelling.{spelling}
-use Rattle.px_half.specs.End.{End, plan_at, blank, class_defaults, types_of, methods_in, blocks_in, root_slots}
+use Rattle.px_half.specs.End.{End, plan_at, blank, class_defaults, types_of, root_slots}
 
 -- ---- new objects
 
@@ -50,9 +49,16 @@ abbrev pub new_object : Code → Header → Object
 new_object code h = record { header = h; cells = new_cells code h.kind h.length }
 
 -- Its kind is there, and its length is one of that kind. No code has a table operation yet, so there are no rows.
+abbrev pub has_fields : Option Class → ℕ → Bool
+has_fields None n = false
+has_fields (Some class) n = length class.fields == n
+
+abbrev pub class_fits : Code → ℕ → ℕ → Bool
+class_fits code class n = has_fields (slice_get code.classes class) n
+
 abbrev pub kind_fits : Code → Kind → ℕ → Bool
-kind_fits code (kind.Object class) n = is_some (slice_get code.classes class) && (n == length (class_defaults code class))
-kind_fits code (kind.Array element) n = nat_lt element (4 + length code.classes) && nat_le n max_elements
+kind_fits code (kind.Object class) n = class_fits code class n
+kind_fits code (kind.Array element) n = (nat_lt element 4 || nat_lt (element - 4) (length code.classes)) && nat_le n max_elements
 kind_fits code (kind.Rows statement) n = false
 
 abbrev pub header_fits : Code → List Object → Header → Bool
@@ -62,6 +68,11 @@ header_fits code heap h = kind_fits code h.kind h.length && nat_le h.site (lengt
 abbrev pub with_news : Code → List Header → List Object → Option (List Object)
 with_news code [] heap = Some heap
 with_news code (h ∷ hs) heap = if header_fits code heap h then with_news code hs (heap ++ new_object code h ∷ []) else None
+
+-- whether all were added, and the heap if they were
+abbrev pub Adds : Bool → Code → List Header → List Object → List Object → Type 0
+Adds true code headers old new = with_news code headers old ≡ Some new
+Adds false code headers old new = with_news code headers old ≡ None
 
 -- ---- cells
 
@@ -73,88 +84,96 @@ leads heap _ = true
 abbrev pub cell_fits : List Object → CellAt → Bool
 cell_fits heap c = is_some (cell_at heap c.object c.index) && leads heap c.value
 
--- each cell is written; they are different cells
+-- each cell is written; a message has each once
 abbrev pub with_cells : List CellAt → List Object → List Object
 with_cells [] heap = heap
-with_cells (c ∷ cs) heap = with_cells cs (written heap c.object c.index c.value)
-
-abbrev pub with_cells_if : Bool → List CellAt → List Object → Option (List Object)
-with_cells_if true cells heap = Some (with_cells cells heap)
-with_cells_if false cells heap = None
-
-abbrev pub cells_in : List CellAt → Option (List Object) → Option (List Object)
-cells_in cells None = None
-cells_in cells (Some heap) = with_cells_if (list_all (cell_fits heap) cells) cells heap
+with_cells (c ∷ cells) heap = with_cells cells (written heap c.object c.index c.value)
 
 -- ---- the stack
 
-abbrev pub frame_fits : Option Plan → FrameTold → Bool
-frame_fits plan f = nat_le f.method (length (methods_in plan)) && nat_le f.back (length (blocks_in plan))
+abbrev pub frame_fits : Plan → FrameTold → Bool
+frame_fits plan f = nat_le f.method (length plan.code.methods) && nat_le f.back (length plan.blocks.blocks)
 
-abbrev pub blank_slots : Option Plan → ℕ → List Slot
+-- the slots of the lowest frame, and of a method's
+abbrev pub blank_slots : Plan → ℕ → List Slot
 blank_slots plan zero = root_slots
-blank_slots plan (suc m) = map (λ t. blank (default_of t)) (types_of (method_at (methods_in plan) (suc m)))
+blank_slots plan (suc m) = map (λ t. blank (default_of t)) (types_of (slice_get plan.code.methods m))
 
-abbrev pub blank_frame : Option Plan → FrameTold → Frame
+abbrev pub blank_frame : Plan → FrameTold → Frame
 blank_frame plan f = record { method = f.method; back = f.back; slots = blank_slots plan f.method }
 
-abbrev pub slot_fits : List Object → List Frame → SlotAt → Bool
-slot_fits heap frames s = nat_lt s.slot (length (slots_at frames s.frame)) && leads heap s.value
+abbrev pub blank_count : Plan → Option FrameTold → ℕ
+blank_count plan None = 0
+blank_count plan (Some f) = length (blank_slots plan f.method)
+
+-- how many slots a frame has, of those that stay and those that come
+abbrev pub slot_count : Plan → TransferTold → List Frame → ℕ → ℕ
+slot_count plan t frames f = if nat_lt f t.base then length (slots_at frames f) else blank_count plan (slice_get t.frames (f - t.base))
+
+abbrev pub slot_fits : Plan → TransferTold → List Frame → List Object → SlotAt → Bool
+slot_fits plan t frames heap s = nat_lt s.slot (slot_count plan t frames s.frame) && leads heap s.value
 
 abbrev pub with_slots : List SlotAt → List Frame → List Frame
 with_slots [] frames = frames
-with_slots (s ∷ ss) frames = with_slots ss (filled frames s.frame s.slot s.value)
+with_slots (s ∷ slots) frames = with_slots slots (filled frames s.frame s.slot s.value)
 
 abbrev pub settled_frame : Frame → Frame
 settled_frame f = record f { slots = all_settled f.slots }
 
--- ---- messages
+-- the lowest frames stay, and those of the message stand on them
+abbrev pub with_frames : Plan → TransferTold → List Frame → List Frame
+with_frames plan t frames = map settled_frame (with_slots t.slots (take t.base frames ++ map (blank_frame plan) t.frames))
 
-abbrev pub code_in : Option Plan → Code
-code_in None = record { main = 0; classes = []; methods = []; sites = []; nodes = [] }
-code_in (Some plan) = plan.code
+-- ---- what is there
 
--- the heap that a message leaves, or None where it names what isn't there
-abbrev pub updated : Option Plan → Updates → List Object → Option (List Object)
-updated plan u heap = cells_in u.cells (with_news (code_in plan) u.headers heap)
+abbrev pub stack_fits : Plan → TransferTold → List Frame → Bool
+stack_fits plan t frames = nat_le t.block (length plan.blocks.blocks) && nat_le t.base (length frames) && list_all (frame_fits plan) t.frames
 
-abbrev pub bare_frames : Option Plan → TransferTold → List Frame → List Frame
-bare_frames plan t frames = take t.base frames ++ map (blank_frame plan) t.frames
+abbrev pub cells_fit : List CellAt → List Object → Bool
+cells_fit cells heap = list_all (cell_fits heap) cells
 
-abbrev pub stack_fits : Option Plan → TransferTold → List Frame → Bool
-stack_fits plan t frames = nat_le t.block (length (blocks_in plan)) && nat_le t.base (length frames) && list_all (frame_fits plan) t.frames
+abbrev pub slots_fit : Plan → TransferTold → List Frame → List Object → Bool
+slots_fit plan t frames heap = list_all (slot_fits plan t frames heap) t.slots
 
-abbrev pub transferred : TransferTold → List Frame → List Object → End → End
-transferred t frames heap e = record e {
-  block = t.block;
-  turns = t.turns;
-  known = length heap;
-  machine = record { heap = heap; frames = map settled_frame (with_slots t.slots frames); base = length frames; marks = []; named = [] };
-}
+-- ---- the machine after a message, or None where it names what isn't there
 
-abbrev pub transferred_if : Bool → TransferTold → List Frame → List Object → End → Option End
-transferred_if true t frames heap e = Some (transferred t frames heap e)
-transferred_if false t frames heap e = None
+abbrev pub updated_if : Bool → List CellAt → Machine → List Object → Option Machine
+updated_if true cells m heap = Some (record m { heap = with_cells cells heap })
+updated_if false cells m heap = None
 
-abbrev pub slots_in_heap : TransferTold → List Frame → Option (List Object) → End → Option End
-slots_in_heap t frames None e = None
-slots_in_heap t frames (Some heap) e = transferred_if (list_all (slot_fits heap frames) t.slots) t frames heap e
+abbrev pub with_updates : Plan → Updates → Machine → Option Machine
+with_updates plan u m = option_and_then (λ heap. updated_if (cells_fit u.cells heap) u.cells m heap) (with_news plan.code u.headers m.heap)
 
--- control comes to this end
-abbrev pub with_transfer : TransferTold → End → Option End
-with_transfer t e =
-    if stack_fits (plan_at e) t e.machine.frames
-    then slots_in_heap t (bare_frames (plan_at e) t e.machine.frames) (updated (plan_at e) t.updates e.machine.heap) e
+-- control comes, and nothing is marked
+abbrev pub in_control : List Frame → Machine → Machine
+in_control frames m = record m { frames = frames; base = length frames; marks = []; named = [] }
+
+abbrev pub transferred_if : Bool → Plan → TransferTold → Machine → List Object → Option Machine
+transferred_if true plan t m heap = Some (in_control (with_frames plan t m.frames) (record m { heap = with_cells t.updates.cells heap }))
+transferred_if false plan t m heap = None
+
+abbrev pub with_transfer : Plan → TransferTold → Machine → Option Machine
+with_transfer plan t m =
+    if stack_fits plan t m.frames
+    then option_and_then (λ heap. transferred_if (cells_fit t.updates.cells heap && slots_fit plan t m.frames heap) plan t m heap) (with_news plan.code t.updates.headers m.heap)
     else None
 
-abbrev pub committed : Option (List Object) → End → Option End
-committed None e = None
-committed (Some heap) e = Some (record e { known = length heap; machine = record e.machine { heap = heap } })
+-- ---- the end after a message
+
+abbrev pub after_commit : End → Machine → End
+after_commit e m = record e { known = length m.heap; machine = m }
+
+abbrev pub after_transfer : TransferTold → End → Machine → End
+after_transfer t e m = record e { block = t.block; turns = t.turns; known = length m.heap; machine = m }
+
+abbrev pub absorbed_by : Option Plan → Message → End → Option End
+absorbed_by None message e = None
+absorbed_by (Some plan) (Transfer t) e = option_map (after_transfer t e) (with_transfer plan t e.machine)
+absorbed_by (Some plan) (Commit u) e = option_map (after_commit e) (with_updates plan u e.machine)
 
 -- the end after a message, or None where the message names what isn't there
 abbrev pub absorbed : Message → End → Option End
-absorbed (Transfer t) e = with_transfer t e
-absorbed (Commit u) e = committed (updated (plan_at e) u e.machine.heap) e
+absorbed message e = absorbed_by (plan_at e) message e
 
 -- ---- bytes
 

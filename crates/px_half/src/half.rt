@@ -1,8 +1,11 @@
 //! One end.
 ghost use Rattle.std.specs.Prelude.{◌≡◌, [], slice_get, true, false, IfOk, OnOk, OnErr};
 ghost use Rattle.px_code.specs.declared.side.Side.TheVariants.{App, Db};
-ghost use Rattle.px_half.specs.End.{HasSmallMain, new_end, begun, attended, block_run, reply_at, rested, closed_now, rolled_back};
+ghost use Rattle.px_wire.specs.Fitting.{HasSpelling, UpdatesHaveSpelling};
+ghost use Rattle.px_half.specs.Messages.{IsTellable, IsTransfer, AreUpdates, IsMessage, IsEmitted, told};
+ghost use Rattle.px_half.specs.End.{plan_at as plan_of, HasSmallMain, new_end, begun, attended, block_run, reply_at, rested, closed_now, rolled_back};
 
+use crate::emit::{frames_told, slots_told, updates};
 use crate::entering::{entry_frame, root_frame, types_in};
 use crate::first_heap::first_heap;
 use crate::machine::Machine;
@@ -14,6 +17,7 @@ use crate::stop::Stop;
 use crate::undo::take_back;
 use px_code::{Plans, Reply, Shown, Side};
 use px_value::Value;
+use px_wire::{Message, Transfer, Updates, encode};
 use sqlite_items::Items;
 use std::alloc::{AllocError, Global};
 use std::marker::Model;
@@ -160,6 +164,52 @@ impl Half {
         Ok(Shown {
             reply,
             prints: Items::new(alloc),
+        })
+    }
+
+    /// The bytes of the message that is due where `run_block` answered Cross or Done, after which nothing is marked.
+    pub fn emit(&mut self, alloc: Global) -> Result<Vec<u8>, AllocError>
+        requires { IsTellable self.old.machine }
+        ensures bytes { IfOk result (λ bytes. IsEmitted self.old bytes.items) }
+        ensures told { OnOk result (self.new ≡ told self.old) }
+        ensures err { OnErr result (self.new ≡ self.old) }
+    {
+        let bytes = encode(alloc, &self.message(alloc)?)?;
+        self.machine.marks.clear();
+        self.machine.named.clear();
+        self.known = self.machine.heap.len();
+        Ok(bytes)
+    }
+
+    #[tactic(auto, using(crate::proofs::Telling::transfer_spelled))]
+    fn message(&self, alloc: Global) -> Result<Message, AllocError>
+        requires { IsTellable self.now.machine }
+        ensures is { IfOk result (λ m. IsMessage self.now.side self.now.block self.now m) }
+        ensures has_spelling { IfOk result (λ m. HasSpelling m) }
+    {
+        let plan = plan_at(&self.plans, self.part);
+        let updates = updates(alloc, plan, self.known, &self.machine)?;
+        match self.side {
+            Side::App if self.block == 0 => Ok(Message::Commit(updates)),
+            _ => Ok(Message::Transfer(self.transfer(alloc, updates)?)),
+        }
+    }
+
+    fn transfer(&self, alloc: Global, updates: Updates) -> Result<Transfer, AllocError>
+        requires tellable { IsTellable self.now.machine }
+        requires updates { AreUpdates (plan_of self.now) self.now.known self.now.machine updates }
+        requires spelled { UpdatesHaveSpelling updates }
+        ensures is { IfOk result (λ t. IsTransfer self.now t) }
+        ensures spelled { IfOk result (λ t. UpdatesHaveSpelling t.updates) }
+    {
+        let frames = self.machine.frames.as_slice();
+        Ok(Transfer {
+            block: self.block,
+            turns: self.turns,
+            base: self.machine.base as u8,
+            frames: frames_told(alloc, frames, self.machine.base)?,
+            slots: slots_told(alloc, frames)?,
+            updates,
         })
     }
 

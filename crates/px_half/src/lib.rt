@@ -2,10 +2,12 @@
 #![tactic(auto)]
 
 mod carry;
+mod emit;
 mod entering;
 mod first_heap;
 mod half;
 mod machine;
+mod news;
 mod next;
 mod plans;
 mod stack;

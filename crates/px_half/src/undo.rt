@@ -1,9 +1,10 @@
 //! What was changed in a heap, so that it can be taken back.
-ghost use Rattle.std.specs.Prelude.{◌≡◌, [], OnOk};
+ghost use Rattle.std.specs.Prelude.{◌≡◌, ◌++◌, ◌∷◌, [], length, OnOk, OnErr};
 ghost use Rattle.px_value.specs.Heap.{written};
 ghost use Rattle.px_half.specs.Undo.{undone, undo_one};
+ghost use Rattle.px_half.specs.declared.undo.Change.TheVariants.{Made};
 
-use px_value::{Heap, Value};
+use px_value::{Header, Heap, Value, Values};
 use std::alloc::AllocError;
 
 #[derive(Drop)]
@@ -30,6 +31,29 @@ pub fn write(
         undo.push_reserved(Change::Wrote { object, index, old });
     }
     Ok(())
+}
+
+/// Adds an object.
+pub fn make(
+    heap: &mut Heap,
+    undo: &mut Vec<Change>,
+    header: Header,
+    cells: Values,
+) -> Result<(), AllocError>
+    requires { length cells ≡ header.length }
+    ensures made { OnOk result (heap.new ≡ heap.old ++ record { header = header; cells = cells } ∷ []) }
+    ensures noted { OnOk result (undo.new.items ≡ undo.old.items ++ Made ∷ []) }
+    ensures heap_kept { OnErr result (heap.new ≡ heap.old) }
+    ensures undo_kept { OnErr result (undo.new.items ≡ undo.old.items) }
+{
+    undo.reserve(1)?;
+    match heap.add(header, cells) {
+        Ok(_) => {
+            undo.push_reserved(Change::Made);
+            Ok(())
+        }
+        Err(_) => Err(AllocError),
+    }
 }
 
 // The heap before one change.
