@@ -6,13 +6,13 @@ use mathlib.Core.Option.{some, some-injective}
 use mathlib.Core.Option as maybe
 use native.Mathlib.Decide.{ℕ_discrete}
 use lib.ListN.{get_elem?}
-use Rattle.atomic_table.specs.Table.{State, step}
+use Rattle.atomic_table.specs.Table.{State}
 use Rattle.atomic_table.proofs.Lists.{at_set, set_here, set_else}
 use Rattle.px_turn.specs.declared.view.Joined.{Joined}
 use Rattle.px_turn.specs.declared.view.View.{View}
 use Rattle.px_turn.specs.Entries.{made_by, longer}
 use Rattle.px_turn.specs.Stages.{ticket_of}
-use Rattle.px_turn.specs.Views.{spent, NumbersDiffer}
+use Rattle.px_turn.specs.Views.{NumbersDiffer}
 use Rattle.px_turn.specs.Rule.{one_if, ticket_count, FitsHistory, FitsJoined, FitsStage, SlotHolds, IsKept}
 use Rattle.px_turn.proofs.Lists.{get_length}
 use Rattle.px_turn.proofs.Prefixes.{prefix_trans}

@@ -26,25 +26,27 @@ module _ {T E V : Type 0} (entries : T → List (E × ℕ)) (values : T → V) (
   abbrev Rule : Table → Type 0
   Rule = IsKept entries values agreed
 
-  outside_or_live : (s : Table) (r : Rule s) (j : ℕ) (u : Known) → get_elem? s.views j ≡ some u → IsInside u.stage → (b : Bool) → u.live ≡ b → u.live ≡ true
-  outside_or_live s r j u there met true is = is
-  outside_or_live s r j u there met false is = absurd (outside_not_inside u.stage (r.idle j u there is) met)
+  -- a pass that is inside wasn't joined
+  inside_is_live : (s : Table) (r : Rule s) (j : ℕ) (u : Known) → get_elem? s.views j ≡ some u → IsInside u.stage → (b : Bool) → u.live ≡ b → u.live ≡ true
+  inside_is_live s r j u there met true is = is
+  inside_is_live s r j u there met false is = absurd (outside_not_inside u.stage (r.idle j u there is) met)
 
   -- the state is at home where the first pass, which isn't inside, is the only one
   at_home : (s : Table) (r : Rule s) (id : ℕ) (v : Known) (slot : maybe.Option (Option T)) → get_elem? s.views id ≡ some v → v.live ≡ true → v.stage ≡ Outside → live_count s.views ≤ 1 → SlotHolds entries values agreed r.history s.views slot
       → (x : T) × (slot ≡ some (Some x)) × (entries x ≡ r.history) × (values x ≡ agreed)
   at_home s r id v none at live outside only in_slot =
-      let up = outside_or_live s r in_slot.0 in_slot.1 in_slot.2 in_slot.3 in_slot.1.live refl in
+      let up = inside_is_live s r in_slot.0 in_slot.1 in_slot.2 in_slot.3 in_slot.1.live refl in
       let same : in_slot.0 ≡ id = live_count-only s.views in_slot.0 id in_slot.1 v only in_slot.2 at up live in
       absurd (outside_not_inside v.stage outside (subst (λ (u : Known). IsInside u.stage) (some-injective in_slot.1 v (sym in_slot.2 ∙ (ap (get_elem? s.views) same ∙ at))) in_slot.3))
   at_home s r id v (some None) at live outside only in_slot = absurd in_slot
   at_home s r id v (some (Some x)) at live outside only in_slot = (x, refl, in_slot.0, in_slot.1)
 
   -- a pass beside the only live one was joined
-  down_of : (s : Table) (r : Rule s) (n id : ℕ) (u v : Known) → get_elem? s.views n ≡ some u → get_elem? s.views id ≡ some v → v.live ≡ true → live_count s.views ≤ 1 → n ≢ id → (b : Bool) → u.live ≡ b → u.live ≡ false
-  down_of s r n id u v there at live only apart true is = absurd (apart (live_count-only s.views n id u v only there at is live))
-  down_of s r n id u v there at live only apart false is = is
+  joined_beside : (s : Table) (r : Rule s) (n id : ℕ) (u v : Known) → get_elem? s.views n ≡ some u → get_elem? s.views id ≡ some v → v.live ≡ true → live_count s.views ≤ 1 → n ≢ id → (b : Bool) → u.live ≡ b → u.live ≡ false
+  joined_beside s r n id u v there at live only apart true is = absurd (apart (live_count-only s.views n id u v only there at is live))
+  joined_beside s r n id u v there at live only apart false is = is
 
+  -- where every other pass was joined, the first one has seen all, and the slot holds it
   pub closes : (id : ℕ) (v : Known) (ws : List ℕ) (xs : List (Option T)) → Final (Seen Rule id v) ws xs → v.number ≡ 0 → v.live ≡ true → v.stage ≡ Outside → v.passes ≡ length v.joined + 1 → (x : T) × (get_elem? xs 0 ≡ some (Some x)) × IsLast entries values v x
   closes id v ws xs final number live outside sole =
       let s = final.0 in
@@ -68,7 +70,7 @@ module _ {T E V : Type 0} (entries : T → List (E × ℕ)) (values : T → V) (
           no_others = λ n le. ap (made_by n) (sym history) ∙ r.beyond n (omega arith);
           all_joined = λ n low below.
               let u = there s.views n (omega arith) in
-              let k = r.known n u.0 u.1 (down_of s r n id u.0 v u.1 at live only (λ e. let z = f.0 in omega arith) u.0.live refl) in
+              let k = r.known n u.0 u.1 (joined_beside s r n id u.0 v u.1 at live only (λ e. let z = f.0 in omega arith) u.0.live refl) in
               (k.0, k.1, ap (λ l. get_elem? l k.0) joined ∙ k.2, k.3);
         },
       )

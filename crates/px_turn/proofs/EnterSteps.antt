@@ -10,11 +10,11 @@ use lib.ListN.{get_elem?}
 use Rattle.atomic_table.specs.Table.{State, step, Act, Valid, carried_after, keeps, takes, stepped, Allows}
 use Rattle.atomic_table.proofs.Lists.{set_here, set_else}
 use Rattle.px_turn.specs.declared.view.Stage.{Stage}
-use Rattle.px_turn.specs.declared.view.Stage.TheVariants.{Outside, Waiting, Served, Inside}
+use Rattle.px_turn.specs.declared.view.Stage.TheVariants.{Outside, Waiting, Served}
 use Rattle.px_turn.specs.declared.view.View.{View}
 use Rattle.px_turn.specs.Entries.{made_by}
 use Rattle.px_turn.specs.Stages.{ticket_of, one_if_ticket, IsInside, stage_after_look}
-use Rattle.px_turn.specs.Views.{at_stage}
+use Rattle.px_turn.specs.Views.{at_stage, inside_with}
 use Rattle.px_turn.specs.Rule.{InLine, ticket_count, FitsStage, SlotHolds, IsKept}
 use Rattle.px_turn.specs.Steps.{Draws, LooksAt, Looks, MeetsAt, Meets}
 use Rattle.px_turn.proofs.Lists.{there, get_length}
@@ -47,9 +47,11 @@ module _ {T E V : Type 0} (entries : T → List (E × ℕ)) (values : T → V) (
   others_not_inside s r id j v u at served other there met =
       other (r.apart j id u v r.serving there at (inside_is_served r.history r.serving (ticket_count s.views) r.slot u.seen u.stage met (r.at j u there)) served)
 
+  -- tickets are few beside 2^64
   few_wait : (s : Table) (r : Rule s) → ticket_count s.views ≤ 65535
   few_wait s r = let a = ticket_count-le s.views in let b = r.few in omega arith
 
+  -- a pass joins the line at its end
   pub draws : (slots id : ℕ) (v : Known) (c : List (ℕ × Option T)) → v.stage ≡ Outside → v.live ≡ true → Allows Rule slots id (v, c) 0 (λ n. (n + 1) % 2 ^ 64) (Draws (step slots 0 1 0 none) (v, c))
   draws slots id v c outside live s r _ at _ =
       let n : ℕ = get_or s.words 0 0 in
@@ -79,6 +81,7 @@ module _ {T E V : Type 0} (entries : T → List (E × ℕ)) (values : T → V) (
         refl,
       )
 
+  -- a pass may learn that its ticket is served
   pub looks : (slots id : ℕ) (v : Known) (c : List (ℕ × Option T)) (t : ℕ) → v.stage ≡ Waiting t → v.live ≡ true → Allows Rule slots id (v, c) 1 (λ n. n) (Looks (step slots 1 0 0 none) (v, c))
   looks slots id v c t waits live s r _ at _ =
       let n : ℕ = get_or s.words 1 0 in
@@ -107,13 +110,9 @@ module _ {T E V : Type 0} (entries : T → List (E × ℕ)) (values : T → V) (
         subst (λ (st : Stage). LooksAt st (v, c) n (w, c)) (sym waits) refl,
       )
 
-  -- the ticket of a pass that is served is served
+  -- at its stage `Served` a pass has the ticket that is served
   served_is_serving : (s : Table) (r : Rule s) (id : ℕ) (v : Known) (t : ℕ) → get_elem? s.views id ≡ some v → v.stage ≡ Served t → (InLine r.serving (ticket_count s.views) t) × (t ≡ r.serving)
   served_is_serving s r id v t at turn = subst (FitsStage r.history r.serving (ticket_count s.views) r.slot v.seen) turn (r.at id v at)
-
-  -- a pass that met the state x
-  abbrev inside_view : Known → ℕ → T → Known
-  inside_view v t x = record v { stage = Inside t; seen = entries x }
 
   meets_at : (slots id : ℕ) (v : Known) (t : ℕ) (s : Table) (r : Rule s) (slot : maybe.Option (Option T)) → v.stage ≡ Served t → v.live ≡ true → get_elem? s.views id ≡ some v → s.homes ≡ slot ∷ [] → SlotHolds entries values agreed r.history s.views slot
       → (w : Known) × (a : Act (Option T)) × Valid s.homes [] a × Rule (stepped s 2 (get_or s.words 2 0) id [] w a) × MeetsAt entries values (Served t) (v, []) (get_or s.words 2 0) (w, carried_after [] a)
@@ -127,7 +126,7 @@ module _ {T E V : Type 0} (entries : T → List (E × ℕ)) (values : T → V) (
   meets_at slots id v t s r (some (Some x)) turn live at homes in_slot =
       let served = served_is_serving s r id v t at turn in
       let mine : ticket_of v.stage ≡ some r.serving = ap ticket_of turn ∙ ap some served.1 in
-      let w : Known = inside_view v t x in
+      let w : Known = inside_with entries t x v in
       let n : ℕ = get_or s.words 2 0 in
       let is : n ≡ length r.history = ap (λ ws. get_or ws 2 0) r.words in
       let same : ticket_count (set s.views id w) ≡ ticket_count s.views = (let q = ticket_count-set s.views id v w at in let z : one_if_ticket v.stage ≡ 1 = ap one_if_ticket turn in omega arith) in
@@ -154,6 +153,7 @@ module _ {T E V : Type 0} (entries : T → List (E × ℕ)) (values : T → V) (
         ),
       )
 
+  -- a pass that is served takes the state
   pub meets : (slots id : ℕ) (v : Known) (t : ℕ) → v.stage ≡ Served t → v.live ≡ true → Allows Rule slots id (v, []) 2 (λ n. n) (Meets entries values (step slots 2 0 0 none) (v, []))
   meets slots id v t turn live s r _ at _ =
       let m = meets_at slots id v t s r r.slot turn live at r.homes r.holds in

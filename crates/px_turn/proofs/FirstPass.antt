@@ -12,7 +12,6 @@ use Rattle.px_turn.specs.Views.{KnowsOwn, NumbersDiffer, JoinedNumbers, NumbersD
 use Rattle.px_turn.specs.Rule.{one_if, SlotHolds, IsKept}
 use Rattle.px_turn.specs.Steps.{ChecksOwn, ChecksJoined}
 use Rattle.px_turn.proofs.Counts.{live_count-here}
-use Rattle.px_turn.proofs.EnterSteps.{looks}
 
 module _ {T E V : Type 0} (entries : T → List (E × ℕ)) (values : T → V) (agreed : V) where
   abbrev Known : Type 0
@@ -30,7 +29,7 @@ module _ {T E V : Type 0} (entries : T → List (E × ℕ)) (values : T → V) (
       let z : id ≡ 0 = sym (r.fits id v at live).number ∙ number in
       (z, some-injective v r.first (sym at ∙ (ap (get_elem? s.views) z ∙ r.head)))
 
-  -- a slot that is out stays with the pass that is inside, where that seat's view stays
+  -- a slot that was taken stays with the pass that is inside, where that view stays
   pub slot_kept : (history : List (E × ℕ)) (views views' : List Known) (slot : maybe.Option (Option T)) → ((j : ℕ) (u : Known) → get_elem? views j ≡ some u → IsInside u.stage → get_elem? views' j ≡ some u)
       → SlotHolds entries values agreed history views slot → SlotHolds entries values agreed history views' slot
   slot_kept history views views' none kept in_slot = (in_slot.0, in_slot.1, kept in_slot.0 in_slot.1 in_slot.2 in_slot.3, in_slot.3)
@@ -44,11 +43,13 @@ module _ {T E V : Type 0} (entries : T → List (E × ℕ)) (values : T → V) (
       let views : set s.views id v ≡ s.views = set_again s.views id v at in
       subst Rule (λ i. record { words = sym words i; homes = s.homes; views = sym views i }) r
 
+  -- what each pass knows of its own entries
   knows_own : (s : Table) (r : Rule s) (id : ℕ) (v : Known) → get_elem? s.views id ≡ some v → v.live ≡ true → KnowsOwn v
   knows_own s r id v at live =
       let fit = r.fits id v at live in
       subst (λ (k : ℕ). made_by k v.seen ≡ v.own) (sym fit.number) fit.own_seen
 
+  -- what the first pass knows of those that it joined
   joined_numbers : (s : Table) (r : Rule s) (id : ℕ) (v : Known) → get_elem? s.views id ≡ some v → v.live ≡ true → v.number ≡ 0 → JoinedNumbers v
   joined_numbers s r id v at live number =
       let f = is_first s r id v at live number in

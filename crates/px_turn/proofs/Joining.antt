@@ -1,5 +1,5 @@
 -- A join keeps the rule.
-use Rattle.std.proofs.Common.{◌≡◌, ◌≢◌, ◌⊎◌, ◌+◌, ◌%◌, ◌^◌, ◌<◌, ◌≤◌, ◌∷◌, ◌∙◌, [], ℕ, zero, suc, ltb, true, false, true≢false, List, length, set, Option, refl, ap, sym, subst, ⊎_elim, arith, length-append, length-set}
+use Rattle.std.proofs.Common.{◌≡◌, ◌≢◌, ◌+◌, ◌%◌, ◌^◌, ◌<◌, ◌≤◌, ◌∷◌, ◌∙◌, [], ℕ, zero, suc, ltb, true, false, true≢false, List, length, set, Option, refl, ap, sym, subst, ⊎_elim, arith, length-append, length-set}
 use mathlib.Core.List.{IsPrefix}
 use mathlib.Core.Logic.{dite}
 use mathlib.Core.Option.{some, some-injective, some-ne-none}
@@ -14,7 +14,7 @@ use Rattle.px_turn.specs.Entries.{made_by, longer}
 use Rattle.px_turn.specs.Stages.{ticket_of, one_if_ticket, IsInside}
 use Rattle.px_turn.specs.Views.{joined_of, with_joined, spent, NumbersDiffer}
 use Rattle.px_turn.specs.Rule.{one_if, ticket_count, live_count, FitsHistory, FitsJoined, FitsStage, IsKept}
-use Rattle.px_turn.proofs.Lists.{there, get_length, at_end}
+use Rattle.px_turn.proofs.Lists.{get_length, at_end}
 use Rattle.px_turn.proofs.Prefixes.{prefix_both, longer_of}
 use Rattle.px_turn.proofs.MadeBy.{made_by-between}
 use Rattle.px_turn.proofs.Counts.{ticket_count-set, live_count-set}

@@ -1,5 +1,5 @@
 -- The steps of `leave` keep the rule.
-use Rattle.std.proofs.Common.{◌≡◌, ◌+◌, ◌%◌, ◌^◌, ◌<◌, ◌∷◌, ◌++◌, ◌∙◌, [], ℕ, zero, suc, true, List, length, get_or, set, Option, Some, refl, ap, sym, subst, inl, inr, arith}
+use Rattle.std.proofs.Common.{◌≡◌, ◌+◌, ◌%◌, ◌^◌, ◌<◌, ◌∷◌, ◌∙◌, [], ℕ, zero, suc, true, List, length, get_or, set, Option, Some, refl, ap, sym, subst, inl, inr, arith}
 use Rattle.std.proofs.Math.Nat.{mod-add-mod, mod-eq_of_lt}
 use mathlib.Core.List.{IsPrefix}
 use mathlib.Core.Option.{none, some, some-ne-none}
@@ -10,12 +10,12 @@ use Rattle.atomic_table.proofs.Lists.{set_here}
 use Rattle.px_turn.specs.declared.view.Stage.{Stage}
 use Rattle.px_turn.specs.declared.view.Stage.TheVariants.{Outside, Waiting, Served, Inside}
 use Rattle.px_turn.specs.declared.view.View.{View}
-use Rattle.px_turn.specs.Entries.{made_by, added, Adds}
+use Rattle.px_turn.specs.Entries.{made_by, Adds}
 use Rattle.px_turn.specs.Stages.{ticket_of, one_if_ticket, IsInside}
-use Rattle.px_turn.specs.Views.{at_stage}
+use Rattle.px_turn.specs.Views.{at_stage, having_added}
 use Rattle.px_turn.specs.Rule.{InLine, ticket_count, FitsStage, IsKept}
 use Rattle.px_turn.specs.Steps.{PassesOn, Announces}
-use Rattle.px_turn.proofs.Lists.{there, get_length}
+use Rattle.px_turn.proofs.Lists.{get_length}
 use Rattle.px_turn.proofs.Prefixes.{prefix_self}
 use Rattle.px_turn.proofs.MadeBy.{adds_begins, adds_others, adds_own}
 use Rattle.px_turn.proofs.Counts.{ticket_count-set}
@@ -33,15 +33,17 @@ module _ {T E V : Type 0} (entries : T → List (E × ℕ)) (values : T → V) (
   abbrev Rule : Table → Type 0
   Rule = IsKept entries values agreed
 
+  -- a pass that is inside has the ticket that is served, has seen all, and holds the slot
   inside_has_slot : (s : Table) (r : Rule s) (id : ℕ) (v : Known) (t : ℕ) → get_elem? s.views id ≡ some v → v.stage ≡ Inside t → (InLine r.serving (ticket_count s.views) t) × (t ≡ r.serving) × (v.seen ≡ r.history) × (r.slot ≡ none)
   inside_has_slot s r id v t at met = subst (FitsStage r.history r.serving (ticket_count s.views) r.slot v.seen) met (r.at id v at)
 
+  -- the history goes on by what was added
   pub announces : (slots id : ℕ) (v : Known) (t n : ℕ) (x : T) → v.stage ≡ Inside t → v.live ≡ true → n ≡ length (entries x) → Adds v.number v.seen (entries x)
       → Allows Rule slots id (v, (0, Some x) ∷ []) 2 (λ _. n) (λ _. Announces entries (step slots 2 n 0 none) (v, (0, Some x) ∷ []) n)
   announces slots id v t n x met live is adds s r _ at _ =
       let has = inside_has_slot s r id v t at met in
       let mine : ticket_of v.stage ≡ some r.serving = ap ticket_of met ∙ ap some has.1 in
-      let w : Known = record v { own = v.own ++ added v.seen (entries x); seen = entries x } in
+      let w : Known = having_added entries x v in
       let same : ticket_count (set s.views id w) ≡ ticket_count s.views = (let q = ticket_count-set s.views id v w at in omega arith) in
       let fit = r.fits id v at live in
       let own : made_by id (entries x) ≡ w.own = subst (λ (k : ℕ). made_by k (entries x) ≡ w.own) fit.number (adds_own v.number v.seen (entries x) v.own adds (subst (λ (k : ℕ). made_by k v.seen ≡ v.own) (sym fit.number) fit.own_seen)) in (
@@ -57,7 +59,7 @@ module _ {T E V : Type 0} (entries : T → List (E × ℕ)) (values : T → V) (
             (subst (FitsStage {T = Option T} (entries x) r.serving (ticket_count (set s.views id w)) none (entries x)) (sym met) (subst (λ (k : ℕ). InLine r.serving k t) (sym same) has.0, has.1, refl, refl))
             (λ j u other there. subst (λ (k : ℕ). FitsStage {T = Option T} (entries x) r.serving k none u.seen u.stage) (sym same) (at_other r.history (entries x) r.serving (ticket_count s.views) r.slot none u.seen u.stage (others_not_inside entries values agreed s r id j v u at mine other there) (r.at j u there)))
             (λ k u y other there his hers. absurd (other (r.apart k id u v y there at his hers))),
-        λ y e. ap (λ (z : T). (record v { own = v.own ++ added v.seen (entries z); seen = entries z }, (0, Some x) ∷ [])) (cc e),
+        λ y e. ap (λ (z : T). (having_added entries z v, (0, Some x) ∷ [])) (cc e),
       )
 
   -- the next ticket is served, and another pass comes one nearer
@@ -72,6 +74,7 @@ module _ {T E V : Type 0} (entries : T → List (E × ℕ)) (values : T → V) (
   nearer history serving serving' count count' slot slot' seen (Served t) next small fewer un at = absurd (un (ap some at.1))
   nearer history serving serving' count count' slot slot' seen (Inside t) next small fewer un at = absurd (un (ap some at.1))
 
+  -- the slot is at home again, and the line moves
   pub passes_on : (slots id : ℕ) (v : Known) (t : ℕ) (x : T) → v.stage ≡ Inside t → v.live ≡ true → entries x ≡ v.seen → v.values ≡ Some (values x)
       → Allows Rule slots id (v, (0, Some x) ∷ []) 1 (λ n. (n + 1) % 2 ^ 64) (PassesOn (step slots 1 1 0 none) (v, (0, Some x) ∷ []))
   passes_on slots id v t x met live seen stood s r _ at _ =

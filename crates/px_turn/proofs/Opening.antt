@@ -20,6 +20,7 @@ module _ {T E V : Type 0} (entries : T → List (E × ℕ)) (values : T → V) (
   abbrev Rule : Table → Type 0
   Rule = IsKept entries values agreed
 
+  -- one pass, no entries, and the state at home
   pub starts : (x : T) → entries x ≡ [] → values x ≡ agreed → Rule (opening (0 ∷ 0 ∷ 0 ∷ []) (Some x ∷ []) (first_view agreed))
   starts x none_yet is = record {
     serving = 0;

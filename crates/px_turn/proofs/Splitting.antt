@@ -1,5 +1,5 @@
 -- A split keeps the rule.
-use Rattle.std.proofs.Common.{◌≡◌, ◌≢◌, ◌⊎◌, ◌+◌, ◌%◌, ◌^◌, ◌<◌, ◌∷◌, ◌++◌, ◌∙◌, [], ℕ, true, false, true≢false, List, length, set, Option, refl, ap, sym, subst, ⊎_elim, arith, length-append, length-set}
+use Rattle.std.proofs.Common.{◌≡◌, ◌≢◌, ◌+◌, ◌%◌, ◌^◌, ◌<◌, ◌∷◌, ◌++◌, ◌∙◌, [], ℕ, true, false, true≢false, List, length, set, Option, refl, ap, sym, subst, ⊎_elim, arith, length-append, length-set}
 use mathlib.Core.Logic.{dite}
 use mathlib.Core.Option.{some, some-injective, some-ne-none}
 use native.Mathlib.Decide.{ℕ_discrete}
@@ -10,9 +10,9 @@ use Rattle.px_turn.specs.declared.view.Stage.TheVariants.{Outside}
 use Rattle.px_turn.specs.declared.view.Joined.{Joined}
 use Rattle.px_turn.specs.declared.view.View.{View}
 use Rattle.px_turn.specs.Stages.{ticket_of, one_if_ticket, IsInside}
-use Rattle.px_turn.specs.Views.{with_one_more, newcomer, spent, NumbersDiffer}
+use Rattle.px_turn.specs.Views.{with_one_more, newcomer, NumbersDiffer}
 use Rattle.px_turn.specs.Rule.{one_if, ticket_count, live_count, FitsHistory, FitsStage, IsKept}
-use Rattle.px_turn.proofs.Lists.{there, get_length, at_end}
+use Rattle.px_turn.proofs.Lists.{get_length, at_end}
 use Rattle.px_turn.proofs.MadeBy.{made_by-none}
 use Rattle.px_turn.proofs.Counts.{ticket_count-set, live_count-set, ticket_count-append, live_count-append}
 use Rattle.px_turn.proofs.Line.{outside_not_inside}

@@ -1,13 +1,13 @@
 -- What passes know, and how calls change it.
-use Rattle.std.specs.Prelude.{◌≡◌, ℕ, ◌+◌, ◌<◌, ◌≤◌, ◌==◌, ◌&&◌, Bool, true, false, List, [], ◌∷◌, ◌++◌, length, Option, Some, None}
+use Rattle.std.specs.Prelude.{◌≡◌, ℕ, ◌+◌, ◌<◌, ◌≤◌, ◌==◌, ◌&&◌, Bool, true, false, List, [], ◌∷◌, ◌++◌, length, Some, None}
 use mathlib.Core.Option.{some}
 use mathlib.Core.List.{IsPrefix}
 use lib.ListN.{get_elem?}
 use Rattle.px_turn.specs.declared.view.Stage.{Stage}
-use Rattle.px_turn.specs.declared.view.Stage.TheVariants.{Outside}
+use Rattle.px_turn.specs.declared.view.Stage.TheVariants.{Outside, Inside}
 use Rattle.px_turn.specs.declared.view.Joined.{Joined}
 use Rattle.px_turn.specs.declared.view.View.{View}
-use Rattle.px_turn.specs.Entries.{made_by, longer}
+use Rattle.px_turn.specs.Entries.{made_by, added, longer}
 use Rattle.px_turn.specs.Stages.{is_inside_at}
 
 module _ {E V : Type 0} where
@@ -93,6 +93,15 @@ module _ {E V : Type 0} where
     pub fewer : length v.joined < v.passes
     pub differ : NumbersDiffer v.joined
     pub in_range : (p : ℕ) (x : Joined E) → get_elem? v.joined p ≡ some x → (1 ≤ x.number) × (x.number < v.passes)
+
+module _ {T E V : Type 0} (entries : T → List (E × ℕ)) where
+  -- a pass with the ticket t that met the state
+  abbrev pub inside_with : ℕ → T → View E V → View E V
+  inside_with t state v = record v { stage = Inside t; seen = entries state }
+
+  -- a pass that put the state back, with entries added to it
+  abbrev pub having_added : T → View E V → View E V
+  having_added state v = record v { own = v.own ++ added v.seen (entries state); seen = entries state }
 
 module _ {T E V : Type 0} (entries : T → List (E × ℕ)) (values : T → V) where
   -- the last state, as the first pass sees it once every other was joined

@@ -1,9 +1,9 @@
 //! The steps of `enter` and `leave`, on a seat of the lock's table.
-ghost use Rattle.std.specs.Prelude.{◌≡◌, ℕ, [], ◌∷◌, ◌++◌, Some, None, true};
+ghost use Rattle.std.specs.Prelude.{◌≡◌, ℕ, [], ◌∷◌, Some, None, true};
 ghost use mathlib.Core.List.{IsPrefix};
 ghost use Rattle.px_turn.specs.declared.view.Stage.TheVariants.{Outside, Served, Inside};
-ghost use Rattle.px_turn.specs.Entries.{made_by, added, Adds};
-ghost use Rattle.px_turn.specs.Views.{at_stage};
+ghost use Rattle.px_turn.specs.Entries.{made_by, Adds};
+ghost use Rattle.px_turn.specs.Views.{at_stage, having_added, inside_with};
 
 use crate::rule::{
     Announce, Draw, LENGTH, Look, Meet, NEXT_TICKET, PassOn, SERVING, STATE, TicketRule,
@@ -45,7 +45,7 @@ pub(crate) fn take<S: Story>(table: &LockTable<S>, seat: &mut LockSeat<S>) -> S
     requires table { (seat.old.table_id ≡ table.now.table_id) × (table.now.table_id.words ≡ 3) }
     requires served { (t : ℕ) × (seat.old.me.0.stage ≡ Served t) × (seat.old.me.0.live ≡ true) × (seat.old.me.1 ≡ []) }
     ensures same { (seat.new.table_id ≡ seat.old.table_id) × (seat.new.id ≡ seat.old.id) }
-    ensures inside { (t : ℕ) × (seat.new.me ≡ (record seat.old.me.0 { stage = Inside t; seen = S.entries result }, (0, None) ∷ [])) }
+    ensures inside { (t : ℕ) × (seat.new.me ≡ (inside_with S.entries t result seat.old.me.0, (0, None) ∷ [])) }
     ensures values { seat.old.me.0.values ≡ Some (S.values result) }
     ensures begins { IsPrefix seat.old.me.0.seen (S.entries result) }
     ensures own { made_by seat.old.me.0.number (S.entries result) ≡ seat.old.me.0.own }
@@ -61,7 +61,7 @@ pub(crate) fn put<S: Story>(table: &LockTable<S>, seat: &mut LockSeat<S>, state:
     requires entries { Adds seat.old.me.0.number seat.old.me.0.seen (S.entries state) }
     requires values { seat.old.me.0.values ≡ Some (S.values state) }
     ensures same { (seat.new.table_id ≡ seat.old.table_id) × (seat.new.id ≡ seat.old.id) }
-    ensures outside { seat.new.me ≡ (record seat.old.me.0 { stage = Outside; own = seat.old.me.0.own ++ added seat.old.me.0.seen (S.entries state); seen = S.entries state }, []) }
+    ensures outside { seat.new.me ≡ (at_stage Outside (having_added S.entries state seat.old.me.0), []) }
 {
     let length = state.made();
     let None = table.exchange(seat, STATE, Some(state)) else {

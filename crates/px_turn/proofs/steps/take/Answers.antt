@@ -7,4 +7,4 @@ load-requires g c = let turn = c.requires.served in (search rules, search rules,
 
 pub exchange-requires : goal.exchange-requires
 exchange-requires g c = let turn = c.requires.served in
-    (search rules, take_holds g.S.Story.entries g.S.Story.values c.args.seat.now.me c.load.new.seat.me c.load.new.seat.me turn.0 c.load.result turn.1 c.load.ensures.2)
+    (search rules, take_holds g.S.Story.entries g.S.Story.values c.args.seat.now.me c.load.new.seat.me turn.0 c.load.result turn.1 c.load.ensures.2)
