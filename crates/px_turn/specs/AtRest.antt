@@ -13,6 +13,10 @@ module _ {S : Type 0} where
   carried _ = []
 
 module _ {S E V : Type 0} where
+  -- a live pass at this stage, and the slot that it holds
+  abbrev pub IsSeated : Me S (View E V) → Stage → List (ℕ × S) → Type 0
+  IsSeated me stage slots = (me.0.stage ≡ stage) × (me.0.live ≡ true) × (me.1 ≡ slots)
+
   -- the pass, with its fields beside what it knows
   pub record IsAtRest (number made joined : ℕ) (me : Me (Option S) (View E V)) : Type 0 where
     pub numbered : me.0.number ≡ number
