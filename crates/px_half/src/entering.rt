@@ -3,7 +3,7 @@ ghost use Rattle.std.specs.Prelude.{◌≡◌, ◌∷◌, ◌++◌, [], map, dro
 ghost use Rattle.px_value.specs.declared.value.Value.TheVariants.{Ref};
 ghost use Rattle.px_value.specs.Defaults.{default_of};
 ghost use Rattle.px_code.specs.Machine.{just_written};
-ghost use Rattle.px_half.specs.End.{blank as blank_slot, root_frame as root, entry_slots as slots_of, types_of};
+ghost use Rattle.px_half.specs.End.{blank as blank_slot, root_frame as root, root_slots as slots_of_root, entry_slots as slots_of, types_of};
 ghost use Rattle.std.specs.Option.{option_copied};
 
 use px_code::{Frame, Method, Slot, Slots};
@@ -19,12 +19,20 @@ fn blank(value: Value) -> Slot
     }
 }
 
+/// The one slot of the lowest frame.
+pub fn root_slots(alloc: Global) -> Result<Slots, AllocError>
+    ensures { IfOk result (λ slots. slots ≡ slots_of_root) }
+{
+    let mut slots = Slots::new(alloc);
+    slots.push(blank(Value::Null))?;
+    Ok(slots)
+}
+
 /// The lowest frame, whose one slot gets the reply.
 pub fn root_frame(alloc: Global) -> Result<Frame, AllocError>
     ensures { IfOk result (λ f. f ≡ root) }
 {
-    let mut slots = Slots::new(alloc);
-    slots.push(blank(Value::Null))?;
+    let slots = root_slots(alloc)?;
     Ok(Frame {
         method: 0,
         back: 0,

@@ -13,6 +13,7 @@ mod plans;
 mod stack;
 mod step;
 mod stop;
+mod take_in;
 mod undo;
 
 pub use half::Half;
