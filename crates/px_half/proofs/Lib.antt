@@ -1,2 +1,4 @@
 pub mod Undoes
 pub mod Stacks
+pub mod CarryOrder
+pub mod CarryWhole

@@ -5,6 +5,7 @@ mod carry;
 mod entering;
 mod first_heap;
 mod half;
+mod home;
 mod machine;
 mod next;
 mod plans;
