@@ -2,3 +2,5 @@ pub mod Undoes
 pub mod Stacks
 pub mod Telling
 pub mod NewObjects
+pub mod CarryOrder
+pub mod CarryWhole

@@ -3,3 +3,4 @@ pub mod Machine
 pub mod End
 pub mod Messages
 pub mod Absorbed
+pub mod Carry

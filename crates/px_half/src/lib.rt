@@ -6,6 +6,7 @@ mod emit;
 mod entering;
 mod first_heap;
 mod half;
+mod home;
 mod machine;
 mod news;
 mod next;
