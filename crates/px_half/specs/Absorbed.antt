@@ -1,5 +1,5 @@
 -- What an end takes in of a message.
-use Rattle.std.specs.Prelude.{◌≡◌, ℕ, zero, suc, ◌+◌, ◌-◌, ◌==◌, nat_lt, nat_le, Bool, true, false, ◌&&◌, ◌||◌, List, [], ◌∷◌, ◌++◌, map, take, length, replicate, Option, Some, None, is_some, slice_get, option_map, option_and_then, if◌then◌else◌}
+use Rattle.std.specs.Prelude.{◌≡◌, ℕ, zero, suc, ◌+◌, ◌-◌, ◌==◌, nat_lt, nat_le, Bool, true, false, ◌&&◌, ◌||◌, List, [], ◌∷◌, ◌++◌, map, take, length, replicate, Option, Some, None, is_some, slice_get, option_map, option_and_then, Result, Ok, Err, if◌then◌else◌}
 use Rattle.std.specs.List.{list_all}
 use Rattle.px_value.specs.declared.value.Value.{Value}
 use Rattle.px_value.specs.declared.value.Value.TheVariants.{Ref}
@@ -27,6 +27,8 @@ use Rattle.px_wire.specs.declared.message.Message.{Message}
 use Rattle.px_wire.specs.declared.message.Message.TheVariants.{Transfer, Commit}
 use Rattle.px_wire.specs.Fitting.{HasSpelling, IsInRange}
 use Rattle.px_wire.specs.Spelling.{spelling}
+use Rattle.px_half.specs.declared.absorb.AbsorbError.{AbsorbError}
+use Rattle.px_half.specs.declared.absorb.AbsorbError.TheVariants as bad
 use Rattle.px_half.specs.End.{End, plan_at, blank, class_defaults, types_of, root_slots}
 
 -- ---- new objects
@@ -135,28 +137,35 @@ cells_fit cells heap = list_all (cell_fits heap) cells
 abbrev pub slots_fit : Plan → TransferTold → List Frame → List Object → Bool
 slots_fit plan t frames heap = list_all (slot_fits plan t frames heap) t.slots
 
+-- the heap with the new objects, if they fit and each cell is there
+abbrev pub if_cells_fit : List CellAt → List Object → Option (List Object)
+if_cells_fit cells heap = if cells_fit cells heap then Some heap else None
+
+abbrev pub with_room : Plan → Updates → List Object → Option (List Object)
+with_room plan u heap = option_and_then (if_cells_fit u.cells) (with_news plan.code u.headers heap)
+
 -- ---- the machine after a message, or None where it names what isn't there
 
-abbrev pub updated_if : Bool → List CellAt → Machine → List Object → Option Machine
-updated_if true cells m heap = Some (record m { heap = with_cells cells heap })
-updated_if false cells m heap = None
-
 abbrev pub with_updates : Plan → Updates → Machine → Option Machine
-with_updates plan u m = option_and_then (λ heap. updated_if (cells_fit u.cells heap) u.cells m heap) (with_news plan.code u.headers m.heap)
+with_updates plan u m = option_map (λ heap. record m { heap = with_cells u.cells heap }) (with_room plan u m.heap)
 
 -- control comes, and nothing is marked
-abbrev pub in_control : List Frame → Machine → Machine
-in_control frames m = record m { frames = frames; base = length frames; marks = []; named = [] }
+abbrev pub in_control : Plan → TransferTold → Machine → List Object → Machine
+in_control plan t m heap =
+    let frames = with_frames plan t m.frames in
+    record { heap = with_cells t.updates.cells heap; frames = frames; base = length frames; marks = []; named = [] }
 
-abbrev pub transferred_if : Bool → Plan → TransferTold → Machine → List Object → Option Machine
-transferred_if true plan t m heap = Some (in_control (with_frames plan t m.frames) (record m { heap = with_cells t.updates.cells heap }))
-transferred_if false plan t m heap = None
+abbrev pub transferred : Plan → TransferTold → Machine → List Object → Option Machine
+transferred plan t m heap = if slots_fit plan t m.frames heap then Some (in_control plan t m heap) else None
 
 abbrev pub with_transfer : Plan → TransferTold → Machine → Option Machine
-with_transfer plan t m =
-    if stack_fits plan t m.frames
-    then option_and_then (λ heap. transferred_if (cells_fit t.updates.cells heap && slots_fit plan t m.frames heap) plan t m heap) (with_news plan.code t.updates.headers m.heap)
-    else None
+with_transfer plan t m = if stack_fits plan t m.frames then option_and_then (transferred plan t m) (with_room plan t.updates m.heap) else None
+
+-- the stack, the new objects, the cells and the slots of a transfer are there
+pub record HasRoom (plan : Plan) (t : TransferTold) (m : Machine) (heap : List Object) : Type 0 where
+  pub stack : stack_fits plan t m.frames ≡ true
+  pub news : with_room plan t.updates m.heap ≡ Some heap
+  pub slots : slots_fit plan t m.frames heap ≡ true
 
 -- ---- the end after a message
 
@@ -174,6 +183,14 @@ absorbed_by (Some plan) (Commit u) e = option_map (after_commit e) (with_updates
 -- the end after a message, or None where the message names what isn't there
 abbrev pub absorbed : Message → End → Option End
 absorbed message e = absorbed_by (plan_at e) message e
+
+-- ---- refusals
+
+-- where a message is refused
+abbrev pub IfBad : {A : Type 0} → Result A AbsorbError → Type 0 → Type 0
+IfBad (Ok a) P = Unit {0}
+IfBad (Err bad.BadMessage) P = P
+IfBad (Err bad.NoMemory) P = Unit {0}
 
 -- ---- bytes
 

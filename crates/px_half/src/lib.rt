@@ -1,6 +1,7 @@
 //! One end of a session: its heap, its copy of the stack, and what it has written since control came.
 #![tactic(auto)]
 
+mod absorb;
 mod carry;
 mod emit;
 mod entering;
@@ -17,5 +18,6 @@ mod stop;
 mod take_in;
 mod undo;
 
+pub use absorb::AbsorbError;
 pub use half::Half;
 pub use step::Step;
