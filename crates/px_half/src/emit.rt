@@ -123,7 +123,12 @@ pub fn slots_told(alloc: Global, frames: &[Frame]) -> Result<Items<SlotAt>, Allo
 {
     let mut told = Items::new(alloc);
     for frame in 0..frames.len() {
-        push_written(alloc, &mut told, frame as u16, frames[frame].slots.as_slice())?;
+        push_written(
+            alloc,
+            &mut told,
+            frame as u16,
+            frames[frame].slots.as_slice(),
+        )?;
     }
     Ok(told)
 }

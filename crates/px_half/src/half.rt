@@ -1,10 +1,12 @@
 //! One end.
-ghost use Rattle.std.specs.Prelude.{◌≡◌, [], slice_get, true, false, IfOk, OnOk, OnErr};
+ghost use Rattle.std.specs.Prelude.{◌≡◌, [], slice_get, true, false, Some, None, IfOk, OnOk, OnErr};
 ghost use Rattle.px_code.specs.declared.side.Side.TheVariants.{App, Db};
 ghost use Rattle.px_wire.specs.Fitting.{HasSpelling, UpdatesHaveSpelling};
 ghost use Rattle.px_half.specs.Messages.{IsTellable, IsTransfer, AreUpdates, IsMessage, IsEmitted, told};
+ghost use Rattle.px_half.specs.Absorbed.{absorbed, IsAbsorbed, IsRefused, IfBad};
 ghost use Rattle.px_half.specs.End.{plan_at as plan_of, HasSmallMain, new_end, begun, attended, block_run, reply_at, rested, closed_now, rolled_back};
 
+use crate::absorb::{AbsorbError, absorb_transfer, absorb_updates};
 use crate::emit::{frames_told, slots_told, updates};
 use crate::entering::{entry_frame, root_frame, types_in};
 use crate::first_heap::first_heap;
@@ -17,7 +19,7 @@ use crate::stop::Stop;
 use crate::undo::take_back;
 use px_code::{Plans, Reply, Shown, Side};
 use px_value::Value;
-use px_wire::{Message, Transfer, Updates, encode};
+use px_wire::{Message, Transfer, Updates, decode, encode};
 use sqlite_items::Items;
 use std::alloc::{AllocError, Global};
 use std::marker::Model;
@@ -211,6 +213,44 @@ impl Half {
             slots: slots_told(alloc, frames)?,
             updates,
         })
+    }
+
+    /// Takes in a message of the other end. After want of memory only `roll_back` may follow.
+    pub fn absorb(&mut self, alloc: Global, bytes: &[u8]) -> Result<(), AbsorbError>
+        ensures ok { OnOk result (IsAbsorbed bytes.now self.old self.new) }
+        ensures bad { IfBad result (IsRefused bytes.now self.old) }
+        ensures kept { IfBad result (self.new ≡ self.old) }
+        ensures closed { self.new.closed ≡ self.old.closed }
+    {
+        match decode(alloc, bytes)? {
+            Some(message) => self.take(alloc, &message),
+            None => Err(AbsorbError::BadMessage),
+        }
+    }
+
+    fn take(&mut self, alloc: Global, message: &Message) -> Result<(), AbsorbError>
+        ensures ok { OnOk result (absorbed message.now self.old ≡ Some self.new) }
+        ensures bad { IfBad result (absorbed message.now self.old ≡ None) }
+        ensures kept { IfBad result (self.new ≡ self.old) }
+        ensures closed { self.new.closed ≡ self.old.closed }
+    {
+        match plan_at(&self.plans, self.part) {
+            None => Err(AbsorbError::BadMessage),
+            Some(plan) => {
+                match message {
+                    Message::Transfer(transfer) => {
+                        absorb_transfer(alloc, plan, &mut self.machine, transfer)?;
+                        self.block = transfer.block;
+                        self.turns = transfer.turns;
+                    }
+                    Message::Commit(updates) => {
+                        absorb_updates(alloc, plan, &mut self.machine, updates)?;
+                    }
+                }
+                self.known = self.machine.heap.len();
+                Ok(())
+            }
+        }
     }
 
     /// Keeps what was done since the last close, and closes an open call. Takes no memory.

@@ -127,13 +127,7 @@ fn slot_count(plan: &Plan, transfer: &Transfer, frames: &[Frame], frame: u16) ->
     }
 }
 
-fn slot_fits(
-    plan: &Plan,
-    transfer: &Transfer,
-    frames: &[Frame],
-    heap: &Heap,
-    slot: &SlotAt,
-) -> bool
+fn slot_fits(plan: &Plan, transfer: &Transfer, frames: &[Frame], heap: &Heap, slot: &SlotAt) -> bool
     ensures { result ≡ slot_is_there plan.now transfer.now frames.now heap.now slot.now }
 {
     (usize::from(slot.slot) < slot_count(plan, transfer, frames, slot.frame))
@@ -184,11 +178,7 @@ fn push_frames(
     Ok(())
 }
 
-fn fill_slots(
-    alloc: Global,
-    frames: &mut Vec<Frame>,
-    slots: &[SlotAt],
-) -> Result<(), AllocError>
+fn fill_slots(alloc: Global, frames: &mut Vec<Frame>, slots: &[SlotAt]) -> Result<(), AllocError>
     ensures { OnOk result (frames.new.items ≡ with_slots slots.now frames.old.items) }
 {
     for slot in slots {

@@ -11,5 +11,5 @@ loop-frame-preserved c =
     record {
       same = search rules;
       done = next_in_place settled_frame c.args.frames.now.items c.loop-frame.frames.items c.loop-frame.frame c.index_mut.result.now c.loop-frame.invariant.done (slice_get_read c.loop-frame.frames.items _ c.loop-frame.frame c.index_mut.result.now refl within c.index_mut.ensures.value)
-      ∙ ap (λ (slots : List Slot). slice_set c.loop-frame.frames.items c.loop-frame.frame (record c.index_mut.result.now { slots = slots })) (sym c.settle.ensures);
+          ∙ ap (λ (slots : List Slot). slice_set c.loop-frame.frames.items c.loop-frame.frame (record c.index_mut.result.now { slots = slots })) (sym c.settle.ensures);
     }
