@@ -1,7 +1,6 @@
 -- Reading items one behind the other, as a loop does.
 use Rattle.std.proofs.Common.{◌≡◌, ℕ, suc, ◌-◌, ◌+◌, ◌≤◌, ◌<◌, List, [], ◌∷◌, ◌++◌, Option, Some, None, refl, sym, ap, ◌∙◌, append_assoc, arith}
 use Rattle.std.proofs.lemmas.List.{append-nil}
-use Rattle.std.specs.List.{AllByRecursion}
 use Rattle.px_wire.specs.declared.unread.Unread.{Unread}
 use Rattle.px_wire.specs.declared.unread.Unread.TheVariants.{NoMessage, NoMemory}
 use Rattle.px_wire.specs.Reading.{◌>>=◌, Fails, items_at}
@@ -37,8 +36,3 @@ is_done {A} item_at front count i bytes total le so_far =
     let k : count - i ≡ 0 = omega arith in
     let one : with_front front (items_at item_at (count - i) bytes) ≡ Some (front, bytes) = rw k (ap (λ (items : List A). Some (items, bytes)) (append-nil front)) in
     sym so_far ∙ one
-
--- one item more
-pub all_more : {A : Type 0} (P : A → Type 0) (items : List A) (a : A) → AllByRecursion P items → P a → AllByRecursion P (items ++ a ∷ [])
-all_more P [] a all one = (one, tt)
-all_more P (b ∷ items) a all one = (all.0, all_more P items a all.1 one)
