@@ -2,3 +2,12 @@ pub mod Act
 pub mod CodeRun
 pub mod Machine
 pub mod Slots
+pub mod Frames
+pub mod Places
+pub mod Points
+pub mod Sends
+pub mod Typed
+pub mod Stale
+pub mod Cut
+pub mod Sound
+pub mod Law

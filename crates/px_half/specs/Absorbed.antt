@@ -29,7 +29,8 @@ use Rattle.px_wire.specs.Fitting.{HasSpelling, IsInRange}
 use Rattle.px_wire.specs.Spelling.{spelling}
 use Rattle.px_half.specs.declared.absorb.AbsorbError.{AbsorbError}
 use Rattle.px_half.specs.declared.absorb.AbsorbError.TheVariants as bad
-use Rattle.px_half.specs.End.{End, plan_at, blank, class_defaults, types_of, root_slots}
+use Rattle.px_code.specs.Frames.{blank, types_of, root_slots}
+use Rattle.px_half.specs.End.{End, plan_at, class_defaults}
 
 -- ---- new objects
 

@@ -19,6 +19,8 @@ use Rattle.px_code.specs.declared.frame.Slot.{Slot}
 use Rattle.px_code.specs.declared.plan.Plan.{Plan}
 use Rattle.px_code.specs.declared.reply.Reply.{Reply}
 use Rattle.px_code.specs.declared.reply.Reply.TheVariants as reply
+use Rattle.px_code.specs.Places.{numbered, same_side}
+use Rattle.px_code.specs.Frames.{root_frame, entry_frame}
 use Rattle.px_code.specs.CodeRun.{Ran, method_at, first_values}
 use Rattle.px_code.specs.Machine.{Machine, Stepped, steps, Stop, Threw, block_at, next_block, value_in, slots_at, just_written}
 use Rattle.px_half.specs.declared.step.Step.{Step}
@@ -57,11 +59,6 @@ methods_in (Some plan) = plan.code.methods
 abbrev pub firsts_in : Option Plan → List ℕ
 firsts_in None = []
 firsts_in (Some plan) = plan.blocks.firsts
-
--- numbered from 1
-abbrev pub numbered : {A : Type 0} → List A → ℕ → Option A
-numbered xs zero = None
-numbered xs (suc n) = slice_get xs n
 
 -- ---- a new session
 
@@ -108,25 +105,6 @@ new_end side plans = record {
 
 -- ---- the begin of a call
 
-abbrev pub blank : Value → Slot
-blank v = record { value = v; written = false }
-
-abbrev pub root_slots : List Slot
-root_slots = blank Null ∷ []
-
-abbrev pub root_frame : Frame
-root_frame = record { method = 0; back = 0; slots = root_slots }
-
-abbrev pub types_of : Option Method → List Ty
-types_of None = []
-types_of (Some m) = m.slots
-
-abbrev pub entry_slots : List Ty → List Value → List Slot
-entry_slots types args = map just_written args ++ map (λ t. blank (default_of t)) (drop (length args) types)
-
-abbrev pub entry_frame : List Method → ℕ → List Value → Frame
-entry_frame methods method args = record { method = method; back = 0; slots = entry_slots (types_of (method_at methods method)) (Ref 0 ∷ args) }
-
 -- the first block of a method
 abbrev pub first_block : Option Plan → ℕ → ℕ
 first_block plan method = unwrap_or (numbered (firsts_in plan) method) 0
@@ -145,15 +123,6 @@ abbrev pub attended : End → End
 attended e = record e { in_call = true; machine = record e.machine { frames = []; base = 0 } }
 
 -- ---- blocks
-
-abbrev pub is_app : Side → Bool
-is_app App = true
-is_app Db = false
-
-abbrev pub same_side : Side → Side → Bool
-same_side App side = is_app side
-same_side Db App = false
-same_side Db Db = true
 
 -- block 0 is at APP
 abbrev pub block_side : Option Block → Side

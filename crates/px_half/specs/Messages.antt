@@ -4,15 +4,10 @@ use Rattle.std.specs.List.{AllByRecursion}
 use Rattle.px_value.specs.declared.value.Value.{Value}
 use Rattle.px_value.specs.declared.object.Object.{Object}
 use Rattle.px_value.specs.declared.header.Header.{Header}
-use Rattle.px_value.specs.declared.header.Kind.{Kind}
-use Rattle.px_value.specs.declared.header.Kind.TheVariants as kind
 use Rattle.px_value.specs.Heap.{cell_at, header_of}
 use Rattle.px_code.specs.declared.side.Side.{Side}
 use Rattle.px_code.specs.declared.side.Side.TheVariants.{App, Db}
 use Rattle.px_code.specs.declared.cell.Cell.{Cell}
-use Rattle.px_code.specs.declared.class.Class.{Class}
-use Rattle.px_code.specs.declared.class.Field.{Field}
-use Rattle.px_code.specs.declared.code.Site.{Site}
 use Rattle.px_code.specs.declared.block.Naming.{Naming}
 use Rattle.px_code.specs.declared.frame.Frame.{Frame}
 use Rattle.px_code.specs.declared.frame.Slot.{Slot}
@@ -27,36 +22,16 @@ use Rattle.px_wire.specs.declared.message.Message.TheVariants.{Transfer, Commit}
 use Rattle.px_wire.specs.Order.{AreInOrder, cell_place}
 use Rattle.px_wire.specs.Fitting.{HasShortText, HasSpelling, IsInRange}
 use Rattle.px_wire.specs.Spelling.{spelling}
+use Rattle.px_code.specs.Places.{same_side, home_in}
 use Rattle.px_code.specs.Machine.{Machine}
-use Rattle.px_half.specs.End.{End, numbered, plan_at, same_side}
+use Rattle.px_half.specs.End.{End, plan_at}
 
 -- ---- homes
-
-abbrev pub node_of_field : Option Field → ℕ
-node_of_field None = 0
-node_of_field (Some field) = field.node
-
-abbrev pub fields_in : Option Class → List Field
-fields_in None = []
-fields_in (Some class) = class.fields
-
-abbrev pub node_of_site : Option Site → ℕ
-node_of_site None = 0
-node_of_site (Some site) = unwrap_or site.node 0
-
--- the node that places a cell: that of its field, or of the site that made its object
-abbrev pub home_node : Plan → Header → Kind → ℕ → ℕ
-home_node plan h (kind.Object class) index = node_of_field (slice_get (fields_in (slice_get plan.code.classes class)) index)
-home_node plan h _ index = node_of_site (numbered plan.code.sites h.site)
-
-abbrev pub home_by : Plan → Header → ℕ → Side
-home_by plan h index = unwrap_or (numbered plan.placement.sides (home_node plan h h.kind index)) App
 
 -- the home of a cell, by the header of its object
 abbrev pub home : Option Plan → Option Header → ℕ → Side
 home None h index = App
-home (Some plan) None index = App
-home (Some plan) (Some h) index = home_by plan h index
+home (Some plan) h index = home_in plan.code plan.placement.sides h index
 
 -- ---- what was written and named
 

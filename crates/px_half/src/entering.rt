@@ -3,7 +3,7 @@ ghost use Rattle.std.specs.Prelude.{◌≡◌, ◌∷◌, ◌++◌, [], map, dro
 ghost use Rattle.px_value.specs.declared.value.Value.TheVariants.{Ref};
 ghost use Rattle.px_value.specs.Defaults.{default_of};
 ghost use Rattle.px_code.specs.Machine.{just_written};
-ghost use Rattle.px_half.specs.End.{blank as blank_slot, root_frame as root, root_slots as slots_of_root, entry_slots as slots_of, types_of};
+ghost use Rattle.px_code.specs.Frames.{blank as blank_slot, root_frame as root, root_slots as slots_of_root, entry_slots as slots_of, types_of};
 ghost use Rattle.std.specs.Option.{option_copied};
 
 use px_code::{Frame, Method, Slot, Slots};

@@ -1,21 +1,13 @@
 //! Where cells are at home.
 ghost use Rattle.std.specs.Prelude.{◌≡◌, slice_get};
 ghost use Rattle.std.specs.Option.{option_copied};
-ghost use Rattle.px_half.specs.End.{numbered as numbered_from_one};
-ghost use Rattle.px_half.specs.Messages.{home_node as node_of_home, node_of_field, node_of_site, fields_in, home_by as side_by, home as side_of};
+ghost use Rattle.px_code.specs.Places.{numbered as numbered_from_one, node_by, node_of_field, node_of_site, fields_in, home_by as side_by};
+ghost use Rattle.px_half.specs.Messages.{home as side_of};
 
+use crate::plans::numbered;
 use px_code::{Class, Field, Plan, Side, Site};
 use px_value::{Header, Kind};
 use sqlite_items::at;
-
-fn numbered<T>(items: &[T], number: usize) -> Option<&T>
-    ensures { option_copied result ≡ numbered_from_one items.now number }
-{
-    if number == 0 {
-        return None;
-    }
-    at(items, number - 1)
-}
 
 // The node that places a field of a class.
 fn field_node(classes: &[Class], class: u16, index: u32) -> u32
@@ -42,7 +34,7 @@ fn site_node(sites: &[Site], site: u16) -> u32
 
 // The node that places a cell, by the header of its object.
 fn home_node(plan: &Plan, header: Header, index: u32) -> u32
-    ensures { result ≡ node_of_home plan.now header header.kind index }
+    ensures { result ≡ node_by plan.now.code header.site header.kind index }
 {
     match header.kind {
         Kind::Object(class) => field_node(plan.code.classes.as_slice(), class, index),
@@ -51,7 +43,7 @@ fn home_node(plan: &Plan, header: Header, index: u32) -> u32
 }
 
 fn home_by(plan: &Plan, header: Header, index: u32) -> Side
-    ensures { result ≡ side_by plan.now header index }
+    ensures { result ≡ side_by plan.now.code plan.now.placement.sides header index }
 {
     match numbered(
         plan.placement.sides.as_slice(),

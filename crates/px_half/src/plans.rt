@@ -1,9 +1,10 @@
 //! What an end looks up in its plan.
 ghost use Rattle.std.specs.Prelude.{◌≡◌, slice_get, unwrap_or};
 ghost use Rattle.std.specs.Option.{option_copied};
+ghost use Rattle.px_code.specs.Places.{numbered as numbered_from_one};
 ghost use Rattle.px_code.specs.CodeRun.{method_at as code_method_at};
 ghost use Rattle.px_code.specs.Machine.{block_at as code_block_at};
-ghost use Rattle.px_half.specs.End.{blocks_in, methods_in, first_block as code_first_block, numbered as numbered_from_one, side_of_block as code_side_of_block};
+ghost use Rattle.px_half.specs.End.{blocks_in, methods_in, first_block as code_first_block, side_of_block as code_side_of_block};
 
 use px_code::{Block, Method, Plan, Plans, Side};
 use sqlite_items::at;
@@ -15,7 +16,8 @@ pub fn plan_at(plans: &Plans, part: u8) -> Option<&Plan>
     at(plans.as_slice(), usize::from(part))
 }
 
-fn numbered<T>(items: &[T], number: usize) -> Option<&T>
+/// An item by its number from 1.
+pub fn numbered<T>(items: &[T], number: usize) -> Option<&T>
     ensures { option_copied result ≡ numbered_from_one items.now number }
 {
     if number == 0 {

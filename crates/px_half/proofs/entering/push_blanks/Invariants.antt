@@ -1,6 +1,6 @@
 use Rattle.std.proofs.Common.{◌≡◌, ◌++◌, map, drop}
 use Rattle.px_value.specs.Defaults.{default_of}
-use Rattle.px_half.specs.End.{blank}
+use Rattle.px_code.specs.Frames.{blank}
 use Rattle.px_half.proofs.entering.push_blanks.Given as goal
 
 abbrev pub invariant-loop-ty : goal.invariant-loop-ty
