@@ -6,7 +6,7 @@ pub mod Frames
 pub mod Places
 pub mod Points
 pub mod Sends
-pub mod Typed
+pub mod Fits
 pub mod Stale
 pub mod Cut
 pub mod Sound

@@ -1,14 +1,13 @@
 -- A plan that may stand in the place of code.
-use Rattle.std.specs.Prelude.{◌≡◌, ℕ, ◌<◌, true, List, [], ◌∷◌, ◌++◌, length, take, drop, Option, Some, None, unwrap_or, slice_get, Contains, ◌↔◌}
+use Rattle.std.specs.Prelude.{◌≡◌, ℕ, ◌<◌, true, List, [], ◌∷◌, ◌++◌, length, Option, Some, None, unwrap_or, slice_get, Contains, ◌↔◌}
 use Rattle.std.specs.List.{AllByRecursion}
 use Rattle.px_value.specs.declared.value.Value.{Value}
-use Rattle.px_value.specs.declared.value.Value.TheVariants.{Null}
+use Rattle.px_value.specs.declared.value.Value.TheVariants.{Null, Ref}
 use Rattle.px_value.specs.declared.object.Object.{Object}
 use Rattle.px_value.specs.declared.header.Header.{Header}
 use Rattle.px_value.specs.declared.header.Kind.{Kind}
 use Rattle.px_value.specs.declared.header.Kind.TheVariants as kind
 use Rattle.px_value.specs.declared.thrown.Thrown.{Thrown}
-use Rattle.px_value.specs.declared.ty.Ty.{Ty}
 use Rattle.px_value.specs.Outcome.{Outcome, Gives, Throws, Asks}
 use Rattle.px_code.specs.declared.side.Side.{Side}
 use Rattle.px_code.specs.declared.side.Side.TheVariants.{App, Db}
@@ -24,7 +23,7 @@ use Rattle.px_code.specs.declared.plan.Plan.{Plan}
 use Rattle.px_code.specs.Places.{numbered, side_of, fields_in, site_kind, part_by}
 use Rattle.px_code.specs.Points.{IsMethod}
 use Rattle.px_code.specs.Sends.{Keeps}
-use Rattle.px_code.specs.Typed.{HasType, Fits, header_at}
+use Rattle.px_code.specs.Fits.{Fits, header_at}
 use Rattle.px_code.specs.CodeRun.{Ran, Traced, code_run}
 use Rattle.px_code.specs.Frames.{root_frame, entry_frame}
 use Rattle.px_code.specs.Machine.{Machine, steps, Stop, RunsOn, Returned, Threw, block_at, next_block, slots_at, value_in}
@@ -39,22 +38,19 @@ CodeOutcome = Outcome ⊥ (Traced (Unit {0})) (Option Value)
 abbrev pub run_of : Code → List Object → ℕ → List Value → CodeOutcome
 run_of code heap method args = code_run code heap tt method args
 
--- as many arguments as parameters, of their types
-pub data HaveTypes (heap : List Object) : List Value → List Ty → Type 0 where
-  none : HaveTypes heap [] []
-  one_more : {v : Value} {t : Ty} {vs : List Value} {ts : List Ty} → HasType heap v t → HaveTypes heap vs ts → HaveTypes heap (v ∷ vs) (t ∷ ts)
+-- the arguments of an entry are numbers, truths and texts
+abbrev pub IsNoReference : Value → Type 0
+IsNoReference (Ref target) = ⊥
+IsNoReference v = Unit {0}
 
--- the types of the slots behind `this`, as many as there are parameters
-abbrev pub param_types : Method → List Ty
-param_types m = take m.params (drop 1 m.slots)
-
--- a heap that fits, an entry, and arguments of its types
+-- A heap that fits, an entry, and arguments for it. The types of values don't matter: a plan is sound whatever they are.
 pub record IsInput (code : Code) (heap : List Object) (number : ℕ) (args : List Value) : Type 0 where
   pub fits : Fits code heap
   pub method : Method
   pub is : IsMethod code number method
   pub entry : method.entry ≡ true
-  pub types : HaveTypes heap args (param_types method)
+  pub counted : length args ≡ method.params
+  pub plain : AllByRecursion IsNoReference args
 
 -- the same reply, and the same heap where a call isn't undone
 abbrev pub SameEnd : CodeOutcome → CodeOutcome → Type 0
