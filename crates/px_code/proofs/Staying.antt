@@ -84,13 +84,15 @@ module _ (code : Code) where
   pub leads_on : (old new : List Object) (place : Place) (target : ℕ) → ((p : ℕ) → header_at new p ≡ header_at old p) → Leads code old place target → Leads code new place target
   leads_on old new place target same l = record { header = l.header; there = same target ∙ l.there; site = l.site }
 
+  pub site_at : (heap : List Object) (place : Place) (target : ℕ) (h : Header) → Leads code heap place target → header_at heap target ≡ Some h → PointsTo code place h.site
+  site_at heap place target h l there = subst (λ (g : Header). PointsTo code place g.site) (same_Some l.header h (sym l.there ∙ there)) l.site
+
   -- an object that a reference leads to has fields
   pub leads_to_object : (heap : List Object) (place : Place) (target : ℕ) (h : Header) (index : ℕ) → Fits code heap → Leads code heap place target → header_at heap target ≡ Some h → part_by h.kind index ≡ FieldPart index
   leads_to_object heap place target h index fits l there =
-      let same : l.header ≡ h = same_Some l.header h (sym l.there ∙ there) in
       let found = with_header (slice_get heap target) h there in
       let made : IsMade code found.0 = fits.shaped.made target found.0 found.1 in
-      let site : h.site ≡ 0 = ap (λ (g : Header). g.site) (sym same) ∙ alone code place l.header.site l.site in
+      let site : h.site ≡ 0 = alone code place h.site (site_at heap place target h l there) in
       let is : Some (kind.Object code.main) ≡ Some h.kind =
       ap (λ s. site_kind code s) (sym (ap (λ (g : Header). g.site) found.2 ∙ site)) ∙ made.kind ∙ ap (λ (g : Header). Some g.kind) found.2 in
       ap (λ (k : Kind). part_by k index) (sym (same_Some (kind.Object code.main) h.kind is))
@@ -103,7 +105,7 @@ module _ (code : Code) where
 
   pub shaped_on : (heap : List Object) (object index : ℕ) (v : Value) → IsShaped code heap → IsShaped code (written heap object index v)
   shaped_on heap object index v shaped =
-      let first = with_header (slice_get (written heap object index v) 0) shaped.first.header (header_at-written heap object index v 0 ∙ ap (λ (o : Option Object). header_of o) shaped.first_is) in
+      let first = with_header (slice_get (written heap object index v) 0) shaped.first.header (header_at-written heap object index v 0 ∙ ap header_of shaped.first_is) in
       record {
         first = first.0;
         first_is = first.1;
@@ -145,6 +147,7 @@ module _ (code : Code) where
     only_comes : (word : Word) (heap : List Object) (applied : Applied) → Fits code heap → ((n target : ℕ) → slot_of word ≡ Some n → applied ≡ Ok (Ref target) → Leads code heap (InSlot m n) target) → ActStays word heap (acted (Comes applied) heap)
     only_comes word heap applied fits value = record { reads = tt; writes = tt; fits = fits; headers = λ place. refl; value = value }
 
+    -- a reference is followed, and anything else throws
     at_object_stays : (P : Act → Type 0) (v : Value) (f : ℕ → Act) → P (Comes (Err NullPointerException)) → ((object : ℕ) → v ≡ Ref object → P (f object)) → P (at_object v f)
     at_object_stays P (Ref object) f throws follows = follows object refl
     at_object_stays P v f throws follows = throws
@@ -170,7 +173,7 @@ module _ (code : Code) where
         (λ object is.
         let l = frame of object is in
         record {
-          reads = (λ h there. subst (λ part. ReadsPart code m word h.site part) (sym (leads_to_object heap (InSlot m of) object h field fits l there)) (points.ReadsPart.get (subst (λ (g : Header). PointsTo code (InSlot m of) g.site) (same_Some l.header h (sym l.there ∙ there)) l.site)), tt);
+          reads = (λ h there. subst (λ part. ReadsPart code m word h.site part) (sym (leads_to_object heap (InSlot m of) object h field fits l there)) (points.ReadsPart.get (site_at heap (InSlot m of) object h l there)), tt);
           writes = tt;
           fits = fits;
           headers = λ place. refl;
@@ -187,7 +190,7 @@ module _ (code : Code) where
         (λ object is. absurd (no_reference v object plain is))
 
     -- what a put writes may stand there
-    may_put : (node : ℕ) (of : ℕ) (class field : ℕ) (a : Operand) (heap : List Object) (slots : Slots) (site target : ℕ) → HasStatement code m node (w.Put (InFrame of) class field a) → IsNoLiteralReference a → SlotsFit heap slots → PointsTo code (InSlot m of) site → operand slots a ≡ Ref target → Leads code heap (InPart site (FieldPart field)) target
+    may_put : (node of class field : ℕ) (a : Operand) (heap : List Object) (slots : Slots) (site target : ℕ) → HasStatement code m node (w.Put (InFrame of) class field a) → IsNoLiteralReference a → SlotsFit heap slots → PointsTo code (InSlot m of) site → operand slots a ≡ Ref target → Leads code heap (InPart site (FieldPart field)) target
     may_put node of class field (InFrame from) heap slots site target has plain frame place is =
         let l = frame from target is in
         record { header = l.header; there = l.there; site = points.PointsTo.put has place l.site }
@@ -201,7 +204,7 @@ module _ (code : Code) where
         (only_comes word heap (Err NullPointerException) fits (λ n target to_n ends. cc))
         (λ object is.
         let l = frame of object is in
-        let site : (h : Header) → header_at heap object ≡ Some h → PointsTo code (InSlot m of) h.site = λ h there. subst (λ (g : Header). PointsTo code (InSlot m of) g.site) (same_Some l.header h (sym l.there ∙ there)) l.site in
+        let site : (h : Header) → header_at heap object ≡ Some h → PointsTo code (InSlot m of) h.site = λ h there. site_at heap (InSlot m of) object h l there in
         let part : (h : Header) → header_at heap object ≡ Some h → part_by h.kind field ≡ FieldPart field = λ h there. leads_to_object heap (InSlot m of) object h field fits l there in
         record {
           reads = tt;
