@@ -3,3 +3,9 @@ pub mod Forms
 pub mod StmtForms
 pub mod Values
 pub mod Whole
+pub mod Slots
+pub mod Runs
+pub mod Meets
+pub mod Related
+pub mod Agree
+pub mod Exprs
