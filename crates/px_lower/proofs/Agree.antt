@@ -8,6 +8,7 @@ use Rattle.px_code.specs.declared.word.Word.{Word}
 use Rattle.px_code.specs.declared.node.Counter.{Counter}
 use Rattle.px_code.specs.declared.method.Tree.{Tree}
 use Rattle.px_code.specs.declared.method.Tree.TheVariants.{Do}
+use Rattle.px_code.specs.Act.{Slots}
 use Rattle.px_code.specs.CodeRun.{Frame as Target}
 use Rattle.px_lower.specs.declared.out.Out.{Out}
 use Rattle.px_lower.specs.Emit.{emitted, with_temp}
@@ -67,14 +68,18 @@ module _ (W : Type 0) where
   pub this_below : (o : Out) (s : Source W) (c : Target W) → Agree W o s c → 0 < length o.slots
   this_below o s c a = omega (arith, rises_le 1 o.scope o.local a.rises, a.room)
 
-  pub scope_keeps : (o : Out) (s : Source W) (c c' : Target W) → Agree W o s c → Keeps (length o.slots) c.locals c'.locals → map c'.locals o.scope ≡ s.locals.slots
-  scope_keeps o s c c' a k = map_keeps 1 o.scope o.local c.locals c'.locals a.rises (λ j l. let l' : j < length o.slots = omega (arith, l, a.room) in k j l') ∙ a.scoped
+  pub scope_keeps : (o : Out) (s : Source W) (c : Target W) (d : Slots) → Agree W o s c → Keeps (length o.slots) c.locals d → map d o.scope ≡ s.locals.slots
+  scope_keeps o s c d a k = map_keeps 1 o.scope o.local c.locals d a.rises (λ j l. let l' : j < length o.slots = omega (arith, l, a.room) in k j l') ∙ a.scoped
 
   pub agree_after : (o o' : Out) (s s' : Source W) (c c' : Target W) → Agree W o s c → Grown o o' → Kept W o s c s' c' → Agree W o' s' c'
   agree_after o o' s s' c c' a g k = record {
-    scoped = ap (λ xs. map c'.locals xs) g.scope ∙ scope_keeps o s c c' a k.keeps ∙ ap (λ (x : Locals). x.slots) (sym k.locals);
+    scoped = ap (λ xs. map c'.locals xs) g.scope ∙ scope_keeps o s c c'.locals a k.keeps ∙ ap (λ (x : Locals). x.slots) (sym k.locals);
     this = k.keeps 0 (this_below o s c a) ∙ a.this ∙ ap (λ (x : Locals). x.this) (sym k.locals);
     shared = k.shared;
     rises = subst (λ (xs : List ℕ). Rises 1 xs o'.local) (sym g.scope) (subst (λ (n : ℕ). Rises 1 o.scope n) (sym g.local) a.rises);
     room = omega (arith, g.local, g.slots, a.room);
   }
+
+  -- nothing but the shared part is another
+  pub agree_same : (o o' : Out) (s s' : Source W) (c c' : Target W) → Agree W o s c → Grown o o' → c'.locals ≡ c.locals → s'.locals ≡ s.locals → Left W s' c' → Agree W o' s' c'
+  agree_same o o' s s' c c' a g e l h = agree_after o o' s s' c c' a g (record { locals = l; shared = h; keeps = λ j k. ap (λ (f : Slots). f j) e })

@@ -9,3 +9,7 @@ pub mod Meets
 pub mod Related
 pub mod Agree
 pub mod Exprs
+pub mod Puts
+pub mod Sources
+pub mod Stmts
+pub mod Frames
