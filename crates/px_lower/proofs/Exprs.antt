@@ -26,7 +26,8 @@ use Rattle.px_lower.specs.declared.valued.Step.{Step}
 use Rattle.px_lower.specs.declared.valued.Step.TheVariants as step
 use Rattle.px_lower.specs.Emit.{Lasted, Operated, emitted, with_temp, writes, operated, operand_of, slotted, slot_of, widened, fitted}
 use Rattle.px_lower.specs.Expressions.{Lowers, valued}
-use Rattle.px_lower.proofs.Slots.{Keeps, keeps_then, written_same, written_below, Below, operand_keeps}
+use Rattle.px_lower.specs.Sound.{IsBelow}
+use Rattle.px_lower.proofs.Slots.{Keeps, keeps_then, written_same, written_below, operand_keeps}
 use Rattle.px_lower.proofs.Runs.{Ran, More, run, more_none, more_then, more_at, emitted_run}
 use Rattle.px_lower.proofs.Meets.{Left, Meets, meets_bind, meets_tail, meets_source, meets_more, meets_at, meets_from}
 use Rattle.px_lower.proofs.Agree.{Grown, grown_none, grown_then, grown_emitted, grown_temp, grown_more, Agree, Kept, kept_none, this_below, agree_after}
@@ -51,7 +52,7 @@ module _ (Q W : Type 0) (P : Checked) (c0 : Target W) where
 
   -- it is the value of an operand
   abbrev pub HeldAt : Out → Source W → Target W → Operand → ℕ → Rel Value
-  HeldAt o s c a n v s' c' = (operand c'.locals a ≡ v) × Below a n × Kept W o s c s' c'
+  HeldAt o s c a n v s' c' = (operand c'.locals a ≡ v) × IsBelow n a × Kept W o s c s' c'
 
   -- it was just written into slot k
   abbrev pub MadeAt : Out → Source W → Target W → ℕ → Rel Value
@@ -140,7 +141,7 @@ module _ (Q W : Type 0) (P : Checked) (c0 : Target W) where
   -- ---- values of parts
 
   -- an operand alone
-  pub alone : (r : Here Q W Value) (a : Out → Operand) (id token : ℕ) → ((o : Out) (s : Source W) (c : Target W) → Agree W o s c → (r s ≡ Gives (operand c.locals (a o)) s) × Below (a o) (length o.slots)) → Gains r (λ o. valued (Held (a o)) id token o)
+  pub alone : (r : Here Q W Value) (a : Out → Operand) (id token : ℕ) → ((o : Out) (s : Source W) (c : Target W) → Agree W o s c → (r s ≡ Gives (operand c.locals (a o)) s) × IsBelow (length o.slots) (a o)) → Gains r (λ o. valued (Held (a o)) id token o)
   alone r a id token f = record {
     grown = grown_none;
     runs = λ o s c e ag.

@@ -36,7 +36,7 @@ use Rattle.px_lower.proofs.Stmts.{After, does}
 
 -- ---- the first slots
 
-rises_places : (n : ℕ) (ps : List Param) → Rises n (places n ps) (length ps + n)
+pub rises_places : (n : ℕ) (ps : List Param) → Rises n (places n ps) (length ps + n)
 rises_places n [] = omega arith
 rises_places n (p ∷ ps) = let e : length ps + (n + 1) ≡ suc (length ps) + n = omega arith in (omega arith, subst (λ hi. Rises (n + 1) (places (n + 1) ps) hi) e (rises_places (n + 1) ps))
 

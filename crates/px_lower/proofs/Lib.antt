@@ -13,3 +13,5 @@ pub mod Puts
 pub mod Sources
 pub mod Stmts
 pub mod Frames
+pub mod Steps
+pub mod Sounds

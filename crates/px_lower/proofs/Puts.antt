@@ -20,7 +20,8 @@ use Rattle.px_code.specs.CodeRun.{Frame as Target, with_slot, word_run, traced}
 use Rattle.px_lower.specs.declared.out.Out.{Out}
 use Rattle.px_lower.specs.Emit.{Operated, emitted, operand_of, slot_of, fitted}
 use Rattle.px_lower.specs.Expressions.{Lowers, store, put_by, put_name, put_member, put_field}
-use Rattle.px_lower.proofs.Slots.{Keeps, Rises, rises_get, map_written, written_below, set_past, Below, operand_keeps}
+use Rattle.px_lower.specs.Sound.{IsBelow}
+use Rattle.px_lower.proofs.Slots.{Keeps, Rises, rises_get, map_written, written_below, set_past, operand_keeps}
 use Rattle.px_lower.proofs.Runs.{Ran, More, run, emitted_run}
 use Rattle.px_lower.proofs.Meets.{Left, Meets, meets_bind, meets_source, meets_more, meets_at}
 use Rattle.px_lower.proofs.Agree.{Grown, grown_none, grown_then, grown_emitted, grown_more, Agree, Kept, this_below, scope_keeps, agree_after, agree_same}

@@ -7,6 +7,7 @@ use Rattle.px_code.specs.declared.word.Operand.{Operand}
 use Rattle.px_code.specs.declared.word.Operand.TheVariants.{Slot, Literal}
 use Rattle.px_code.specs.Act.{Slots, operand}
 use Rattle.px_code.specs.CodeRun.{with_slot}
+use Rattle.px_lower.specs.Sound.{IsBelow}
 
 -- slots below n are as before
 abbrev pub Keeps : ℕ → Slots → Slots → Type 0
@@ -37,11 +38,7 @@ written_above n v f j h = ap (λ b. cond b v (f j)) (eq_above j n h)
 
 -- ---- operands
 
-abbrev pub Below : Operand → ℕ → Type 0
-Below (Slot k) n = k < n
-Below (Literal v) n = Unit {0}
-
-pub operand_keeps : (a : Operand) (n : ℕ) (f g : Slots) → Below a n → Keeps n f g → operand g a ≡ operand f a
+pub operand_keeps : (a : Operand) (n : ℕ) (f g : Slots) → IsBelow n a → Keeps n f g → operand g a ≡ operand f a
 operand_keeps (Slot k) n f g b h = h k b
 operand_keeps (Literal v) n f g b h = refl
 

@@ -27,7 +27,8 @@ use Rattle.px_lower.specs.declared.valued.Had.TheVariants.{Held}
 use Rattle.px_lower.specs.declared.valued.Step.TheVariants as step
 use Rattle.px_lower.specs.Emit.{Operated, operand_of}
 use Rattle.px_lower.specs.Expressions.{Low, Lowers, valued, slot_or_null, name_had, member_had, negated, literal_behind, prefix_low, type_of, named_of, no_put, expr_low, low}
-use Rattle.px_lower.proofs.Slots.{Rises, rises_get, Below, get_map}
+use Rattle.px_lower.specs.Sound.{IsBelow}
+use Rattle.px_lower.proofs.Slots.{Rises, rises_get, get_map}
 use Rattle.px_lower.proofs.Meets.{Left, Meets, meets_source}
 use Rattle.px_lower.proofs.Agree.{Grown, Agree, this_below}
 use Rattle.px_lower.proofs.Exprs.{ran, goes_flow, HeldAt, Gains, Operates, operates, alone, one, two, ends_op, ends_get, gains_from}
@@ -54,7 +55,7 @@ module _ (Q W : Type 0) (P : Checked) (c0 : Target W) where
   abbrev given : Source W → Option Value → V
   given s x = Gives (unwrap_or x Null) s
 
-  local_value : (m : Option ℕ) (p : ℕ) (o : Out) (s : Source W) (c : Target W) → Agree W o s c → slice_get o.scope p ≡ m → (given s (slice_get s.locals.slots p) ≡ given s (Some (operand c.locals (slot_or_null m)))) × Below (slot_or_null m) (length o.slots)
+  local_value : (m : Option ℕ) (p : ℕ) (o : Out) (s : Source W) (c : Target W) → Agree W o s c → slice_get o.scope p ≡ m → (given s (slice_get s.locals.slots p) ≡ given s (Some (operand c.locals (slot_or_null m)))) × IsBelow (length o.slots) (slot_or_null m)
   local_value None p o s c a q =
       (ap (given s) (ap (λ (vs : List Value). slice_get vs p) (sym a.scoped) ∙ get_map c.locals o.scope p ∙ ap (map_option c.locals) q), tt)
   local_value (Some x) p o s c a q =
