@@ -15,3 +15,5 @@ pub mod Stmts
 pub mod Frames
 pub mod Steps
 pub mod Sounds
+pub mod Completes
+pub mod Sizes

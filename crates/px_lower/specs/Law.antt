@@ -1,5 +1,5 @@
 -- The laws of the lowering.
-use Rattle.std.specs.Prelude.{◌≡◌, ℕ, zero, suc, true, List, length, map, Option, Some, None, slice_get}
+use Rattle.std.specs.Prelude.{◌≡◌, ℕ, zero, suc, Bool, true, List, length, map, Option, Some, None, slice_get}
 use Rattle.px_value.specs.declared.value.Value.{Value}
 use Rattle.px_value.specs.declared.object.Object.{Object}
 use Rattle.px_value.specs.Outcome.{Outcome, Gives, Throws, Asks, Shared}
@@ -11,6 +11,10 @@ use Rattle.px_mean.specs.Facts.{facts_in}
 use Rattle.px_mean.specs.Exec.{exec}
 use Rattle.px_mean.specs.Program.{body_of}
 use Rattle.px_code.specs.CodeRun.{Traced, code_run}
+use Rattle.px_lex.specs.declared.tree.Stmt.{Stmt}
+use Rattle.px_types.specs.declared.scope.Scope.{Scope}
+use Rattle.px_types.specs.Statements.{judged_stmt}
+use Rattle.px_lower.specs.Statements.{completes}
 use Rattle.px_lower.specs.Programs.{lowered}
 
 -- without the statements that ran
@@ -33,3 +37,7 @@ method_at methods (suc n) = slice_get methods n
 -- world. Whatever the facts are, it does so by them.
 abbrev pub KeepsMeaning : Type 0 → Type 0 → Type 0
 KeepsMeaning Q W = (P : Checked) (heap : List Object) (world : W) (method : ℕ) (args : List Value) → is_main P.program.classes ≡ true → Takes (method_at (methods_of P.program) method) args → exec {Q = Q} (facts_in P.facts) (map body_of (methods_of P.program)) heap world method args ≡ untraced (code_run (lowered P) heap world method args)
+
+-- A body returns at its end exactly where the type rules let it complete normally.
+abbrev pub CompletesAsJudged : Type 0
+CompletesAsJudged = (void : Bool) (s : Stmt) (scope : Scope) → (judged_stmt void s scope).completes ≡ completes s

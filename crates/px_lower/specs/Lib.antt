@@ -4,3 +4,4 @@ pub mod Statements
 pub mod Programs
 pub mod Law
 pub mod Sound
+pub mod Size
