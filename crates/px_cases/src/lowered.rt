@@ -63,7 +63,10 @@ const CASES: [(&str, &str); 16] = [
         "long f() {\nlong y\n= (\n2 + 3);\ny = 4;\nreturn\ny\n; }",
         "1:1 RLI; 2:4 add %2 2 3; 3:4 widen %1 %2; 4:5 set %1 4L; 5:6 return %1\n",
     ),
-    ("long n; void f() { n = n; ; }", "1:1 RL; 2:1 get %1 %0 0.0; 3:1 put %0 0.0 %1; 4:1 return\n5:1 L\n"),
+    (
+        "long n; void f() { n = n; ; }",
+        "1:1 RL; 2:1 get %1 %0 0.0; 3:1 put %0 0.0 %1; 4:1 return\n5:1 L\n",
+    ),
 ];
 
 fn checked(alloc: Global, members: &str) -> Result<Option<Checked>, Fail> {

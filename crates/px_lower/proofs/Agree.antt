@@ -1,6 +1,5 @@
 -- The locals of the source are in the slots of their places, and what is lowered only grows.
 use Rattle.std.proofs.Common.{◌≡◌, ℕ, ◌+◌, ◌<◌, ◌≤◌, ◌++◌, append_assoc, append-nil, length, length-append, List, [], ◌∷◌, map, refl, sym, ap, ◌∙◌, subst, arith}
-use Rattle.px_value.specs.declared.value.Value.{Value}
 use Rattle.px_value.specs.declared.ty.Ty.{Ty}
 use Rattle.px_types.specs.declared.checked.Checked.{Checked}
 use Rattle.px_mean.specs.Exec.{Locals, Frame as Source}
@@ -13,7 +12,7 @@ use Rattle.px_code.specs.CodeRun.{Frame as Target}
 use Rattle.px_lower.specs.declared.out.Out.{Out}
 use Rattle.px_lower.specs.Emit.{emitted, with_temp}
 use Rattle.px_lower.proofs.Slots.{Keeps, Rises, rises_le, map_keeps}
-use Rattle.px_lower.proofs.Runs.{Ran, More, run, more_trees}
+use Rattle.px_lower.proofs.Runs.{More, run, more_trees}
 use Rattle.px_lower.proofs.Meets.{Left}
 
 -- ---- what an expression adds

@@ -1,14 +1,13 @@
 -- Whether a statement can complete normally is as the type rules say.
-use Rattle.std.proofs.Common.{◌≡◌, ℕ, Bool, true, false, List, [], ◌∷◌, map, refl, sym, ap, ◌∙◌}
+use Rattle.std.proofs.Common.{◌≡◌, ℕ, Bool, true, List, [], ◌∷◌, map, refl}
 use Rattle.std.specs.Prelude.{fold}
 use Rattle.px_lex.specs.declared.tree.StmtForm.{StmtForm-F}
 use Rattle.px_lex.specs.declared.tree.StmtForm.TheOpen.{StmtForm-F as st}
-use Rattle.px_lex.specs.declared.tree.Stmt.{Stmt}
 use Rattle.px_types.specs.declared.scope.Scope.{Scope}
 use Rattle.px_types.specs.Statements.{Judged, JudgesStmt, judged_step, judged_stmt, followed_by, opened}
 use Rattle.px_lower.specs.Statements.{last_completes, completes_step, completes}
 use Rattle.px_lower.specs.Law.{CompletesAsJudged}
-use Rattle.px_lower.proofs.Related.{Triple, LaterTriple, StmtStepsMeet, related_stmt}
+use Rattle.px_lower.proofs.Related.{Triple, StmtStepsMeet, related_stmt}
 
 abbrev Agrees : JudgesStmt → Unit {0} → Bool → Type 0
 Agrees j u b = (scope : Scope) → (j scope).completes ≡ b

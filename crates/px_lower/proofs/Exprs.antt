@@ -1,5 +1,5 @@
 -- The code of an expression does what the expression does.
-use Rattle.std.proofs.Common.{◌≡◌, ℕ, ◌+◌, ◌<◌, ◌≤◌, ◌++◌, length, length-append, List, [], ◌∷◌, map, Option, Some, None, Ok, Err, unwrap_or, slice_get, slice_set, ℤ, refl, sym, ap, ◌∙◌, subst, arith}
+use Rattle.std.proofs.Common.{◌≡◌, ℕ, ◌+◌, ◌<◌, ◌≤◌, ◌++◌, length, length-append, [], ◌∷◌, Option, Some, None, Ok, Err, ℤ, refl, sym, ap, ◌∙◌, subst, arith}
 use Rattle.px_value.specs.declared.value.Value.{Value}
 use Rattle.px_value.specs.declared.value.Value.TheVariants.{Int, Long, Bool as Truth, Text, Null, Ref}
 use Rattle.px_value.specs.declared.ty.Ty.{Ty}
@@ -9,28 +9,28 @@ use Rattle.px_value.specs.declared.op.Op.TheVariants as op
 use Rattle.px_value.specs.Operators.{Applied, apply}
 use Rattle.px_value.specs.Outcome.{Outcome, Gives, Throws, Asks, then_run, ◌>>=◌, pure, Shared, on_shared, Flow, Goes, goes_on}
 use Rattle.px_types.specs.declared.checked.Checked.{Checked}
-use Rattle.px_mean.specs.Effects.{get_field, put_field}
-use Rattle.px_mean.specs.Exec.{Locals, Frame as Source, Here, came_to, widened as widened_value, fit}
+use Rattle.px_mean.specs.Effects.{get_field}
+use Rattle.px_mean.specs.Exec.{Frame as Source, Here, came_to, fit}
 use Rattle.px_code.specs.declared.word.Operand.{Operand}
 use Rattle.px_code.specs.declared.word.Operand.TheVariants.{Slot, Literal}
 use Rattle.px_code.specs.declared.word.Word.{Word}
 use Rattle.px_code.specs.declared.word.Word.TheVariants as w
 use Rattle.px_code.specs.declared.node.Counter.{Counter}
-use Rattle.px_code.specs.declared.node.Counter.TheVariants.{Begun, Completed}
-use Rattle.px_code.specs.Act.{Slots, Act, Comes, Reads, Writes, operand, operand_or, at_object, comes, act_of, acted, value_at}
-use Rattle.px_code.specs.CodeRun.{Frame as Target, with_slot, word_run, after_word, traced}
+use Rattle.px_code.specs.declared.node.Counter.TheVariants.{Begun}
+use Rattle.px_code.specs.Act.{Slots, Comes, Reads, operand, operand_or, at_object, comes, acted, value_at}
+use Rattle.px_code.specs.CodeRun.{Frame as Target, with_slot, word_run, traced}
 use Rattle.px_lower.specs.declared.out.Out.{Out}
 use Rattle.px_lower.specs.declared.valued.Had.{Had}
 use Rattle.px_lower.specs.declared.valued.Had.TheVariants.{Held, Made}
 use Rattle.px_lower.specs.declared.valued.Step.{Step}
 use Rattle.px_lower.specs.declared.valued.Step.TheVariants as step
-use Rattle.px_lower.specs.Emit.{Lasted, Operated, emitted, with_temp, writes, operated, operand_of, slotted, slot_of, widened, fitted}
+use Rattle.px_lower.specs.Emit.{Operated, with_temp, writes, operated, operand_of, slotted, slot_of, widened, fitted}
 use Rattle.px_lower.specs.Expressions.{Lowers, valued}
 use Rattle.px_lower.specs.Sound.{IsBelow}
 use Rattle.px_lower.proofs.Slots.{Keeps, keeps_then, written_same, written_below, operand_keeps}
-use Rattle.px_lower.proofs.Runs.{Ran, More, run, more_none, more_then, more_at, emitted_run}
+use Rattle.px_lower.proofs.Runs.{Ran, More, run, more_then, emitted_run}
 use Rattle.px_lower.proofs.Meets.{Left, Meets, meets_bind, meets_tail, meets_source, meets_more, meets_at, meets_from}
-use Rattle.px_lower.proofs.Agree.{Grown, grown_none, grown_then, grown_emitted, grown_temp, grown_more, Agree, Kept, kept_none, this_below, agree_after}
+use Rattle.px_lower.proofs.Agree.{Grown, grown_none, grown_then, grown_emitted, grown_temp, grown_more, Agree, Kept, kept_none, agree_after}
 
 module _ (Q W : Type 0) (P : Checked) (c0 : Target W) where
   abbrev V : Type 0

@@ -1,6 +1,5 @@
 -- What each form of an expression is lowered to, as an equation. A part is given twice, as the tree has it and as the code reads it.
-use Rattle.std.proofs.Common.{◌≡◌, ℕ, Bool, List, Option, Some, None, refl, sym, ap, ◌∙◌, subst}
-use Rattle.px_value.specs.declared.value.Value.{Value}
+use Rattle.std.proofs.Common.{◌≡◌, ℕ, Bool, List, Some, None, refl, sym, ap, ◌∙◌, subst}
 use Rattle.px_value.specs.declared.ty.Ty.{Ty}
 use Rattle.px_lex.specs.declared.tree.Sign.{Sign}
 use Rattle.px_lex.specs.declared.tree.Name.{Name as NameData}
@@ -98,4 +97,5 @@ no_number P e other =
     subst (λ (l : Low). None ≡ l.number) (sym (fold_out-Expr L Low (expr_low P) placed e)) (form other e.id e.token)
 
 pub ruleset numbers = (low_number, no_number)
+
 pub ruleset lowers = (low_number, low_this, low_name, low_group, low_field, low_prefix, low_binary, no_place)

@@ -1,5 +1,5 @@
 -- The code of all methods does what the methods do.
-use Rattle.std.proofs.Common.{◌≡◌, ℕ, zero, suc, ◌+◌, ◌<◌, ◌≤◌, ◌++◌, append_assoc, append-nil, length, length-append, drop, Bool, true, false, List, [], ◌∷◌, map, Option, Some, None, unwrap_or, slice_get, refl, sym, ap, ◌∙◌, subst, arith}
+use Rattle.std.proofs.Common.{◌≡◌, ℕ, zero, suc, ◌+◌, ◌≤◌, ◌++◌, append-nil, length, length-append, drop, Bool, true, false, List, [], ◌∷◌, map, Some, None, unwrap_or, slice_get, refl, sym, ap, ◌∙◌, subst, arith}
 use Rattle.std.proofs.lemmas.List.{length-map}
 use Rattle.px_value.specs.declared.value.Value.{Value}
 use Rattle.px_value.specs.declared.value.Value.TheVariants.{Null, Ref}
@@ -11,26 +11,24 @@ use Rattle.px_value.specs.Outcome.{Outcome, Gives, Throws, Asks, then_run, Share
 use Rattle.px_lex.specs.declared.tree.Method.{Method}
 use Rattle.px_lex.specs.declared.tree.Param.{Param}
 use Rattle.px_lex.specs.declared.tree.Class.{Class}
-use Rattle.px_lex.specs.declared.tree.Program.{Program}
 use Rattle.px_types.specs.declared.checked.Checked.{Checked}
 use Rattle.px_types.specs.Members.{members_in, methods_in, methods_of}
 use Rattle.px_types.specs.Programs.{is_main}
 use Rattle.px_mean.specs.Facts.{facts_in, named_ty}
-use Rattle.px_mean.specs.Exec.{Body, Frame as Source, map_option, meant, done_by, first_locals, leaves_frame, enters, exec}
+use Rattle.px_mean.specs.Exec.{Frame as Source, map_option, meant, done_by, first_locals, leaves_frame, enters, exec}
 use Rattle.px_mean.specs.Program.{body_of}
 use Rattle.px_code.specs.declared.node.Node.{Node}
 use Rattle.px_code.specs.declared.node.Counter.TheVariants.{ReachedEnd}
 use Rattle.px_code.specs.declared.word.Word.TheVariants as w
 use Rattle.px_code.specs.Act.{Slots}
-use Rattle.px_code.specs.CodeRun.{Frame as Target, Traced, first_values, first_slots, word_run, leaves_frame as code_leaves, enters as code_enters, code_run}
+use Rattle.px_code.specs.CodeRun.{Frame as Target, Traced, first_slots, word_run, leaves_frame as code_leaves, enters as code_enters, code_run}
 use Rattle.px_lower.specs.declared.out.Out.{Out}
-use Rattle.px_lower.specs.Emit.{emitted}
 use Rattle.px_lower.specs.Statements.{declares, completes, low_stmt}
-use Rattle.px_lower.specs.Programs.{param_ty, places, begun, ended, lowered_body, method_of, lowered_methods, main_members, lowered_members, lowered}
+use Rattle.px_lower.specs.Programs.{param_ty, places, begun, ended, lowered_body, method_of, lowered_methods, main_members, lowered}
 use Rattle.px_lower.specs.Law.{untraced, Takes, method_at, KeepsMeaning}
-use Rattle.px_lower.proofs.Slots.{Rises, rises_le}
+use Rattle.px_lower.proofs.Slots.{Rises}
 use Rattle.px_lower.proofs.Runs.{Ran, run, emitted_run}
-use Rattle.px_lower.proofs.Meets.{Left, Meets}
+use Rattle.px_lower.proofs.Meets.{Meets}
 use Rattle.px_lower.proofs.Agree.{Agree}
 use Rattle.px_lower.proofs.Stmts.{After, does}
 

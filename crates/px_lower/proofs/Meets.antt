@@ -1,7 +1,7 @@
 -- A run of the source ends as a run of the code does.
-use Rattle.std.proofs.Common.{◌≡◌, ℕ, refl, sym, ap, ◌∙◌, subst}
+use Rattle.std.proofs.Common.{◌≡◌, sym, ap, ◌∙◌, subst}
 use Rattle.px_value.specs.declared.value.Value.{Value}
-use Rattle.px_value.specs.Outcome.{Outcome, Gives, Throws, Asks, Run, then_run, Flow, Goes, Returns, goes_on}
+use Rattle.px_value.specs.Outcome.{Outcome, Gives, Throws, Asks, Run, then_run, Flow, goes_on}
 use Rattle.px_mean.specs.Exec.{Frame as Source}
 use Rattle.px_code.specs.CodeRun.{Frame as Target}
 use Rattle.px_lower.proofs.Runs.{Ran, More}

@@ -1,5 +1,5 @@
 -- The code of an assignment does what the assignment does.
-use Rattle.std.proofs.Common.{◌≡◌, ℕ, ◌+◌, ◌<◌, ◌≤◌, ◌++◌, length, List, [], ◌∷◌, map, Option, Some, None, slice_get, slice_set, refl, sym, ap, ◌∙◌, subst, arith}
+use Rattle.std.proofs.Common.{◌≡◌, ℕ, ◌+◌, ◌<◌, length, List, map, Option, Some, None, slice_get, slice_set, refl, sym, ap, ◌∙◌, subst, arith}
 use Rattle.px_value.specs.declared.value.Value.{Value}
 use Rattle.px_value.specs.declared.value.Value.TheVariants.{Int, Long, Bool as Truth, Text, Null, Ref}
 use Rattle.px_value.specs.declared.ty.Ty.{Ty}
@@ -12,20 +12,18 @@ use Rattle.px_mean.specs.Effects.{put_field as put_cell}
 use Rattle.px_mean.specs.Exec.{Locals, Frame as Source, Here, with_slots, assign_slot, fit, put_name as mean_put_name, put_member as mean_put_member}
 use Rattle.px_code.specs.declared.word.Operand.{Operand}
 use Rattle.px_code.specs.declared.word.Operand.TheVariants.{Slot}
-use Rattle.px_code.specs.declared.word.Word.{Word}
 use Rattle.px_code.specs.declared.word.Word.TheVariants as w
 use Rattle.px_code.specs.declared.node.Counter.TheVariants.{Begun}
 use Rattle.px_code.specs.Act.{Slots, Writes, operand, at_object, comes, acted}
-use Rattle.px_code.specs.CodeRun.{Frame as Target, with_slot, word_run, traced}
+use Rattle.px_code.specs.CodeRun.{Frame as Target, word_run, traced}
 use Rattle.px_lower.specs.declared.out.Out.{Out}
-use Rattle.px_lower.specs.Emit.{Operated, emitted, operand_of, slot_of, fitted}
+use Rattle.px_lower.specs.Emit.{Operated, operand_of, slot_of, fitted}
 use Rattle.px_lower.specs.Expressions.{Lowers, store, put_by, put_name, put_member, put_field}
-use Rattle.px_lower.specs.Sound.{IsBelow}
 use Rattle.px_lower.proofs.Slots.{Keeps, Rises, rises_get, map_written, written_below, set_past, operand_keeps}
-use Rattle.px_lower.proofs.Runs.{Ran, More, run, emitted_run}
+use Rattle.px_lower.proofs.Runs.{Ran, emitted_run}
 use Rattle.px_lower.proofs.Meets.{Left, Meets, meets_bind, meets_source, meets_more, meets_at}
-use Rattle.px_lower.proofs.Agree.{Grown, grown_none, grown_then, grown_emitted, grown_more, Agree, Kept, this_below, scope_keeps, agree_after, agree_same}
-use Rattle.px_lower.proofs.Exprs.{goes_flow, ran, HeldAt, MadeAt, Gains, Operates, operates, grown_slotted, slots_in, fits}
+use Rattle.px_lower.proofs.Agree.{Grown, grown_none, grown_then, grown_emitted, grown_more, Agree, this_below, scope_keeps, agree_after, agree_same}
+use Rattle.px_lower.proofs.Exprs.{ran, HeldAt, MadeAt, Gains, operates, grown_slotted, slots_in, fits}
 
 module _ (Q W : Type 0) (P : Checked) (c0 : Target W) where
   abbrev V : Type 0

@@ -1,5 +1,5 @@
 -- Code that goes on behind other code.
-use Rattle.std.proofs.Common.{◌≡◌, ℕ, ◌+◌, List, [], ◌∷◌, ◌++◌, length, map, refl, sym, ap, ◌∙◌}
+use Rattle.std.proofs.Common.{◌≡◌, ℕ, ◌+◌, List, [], ◌∷◌, ◌++◌, length, refl, sym, ap, ◌∙◌}
 use Rattle.px_value.specs.declared.value.Value.{Value}
 use Rattle.px_value.specs.Outcome.{Outcome, Gives, Throws, Asks, then_run, pure, Flow, Goes, Returns, goes_on}
 use Rattle.px_types.specs.declared.checked.Checked.{Checked}

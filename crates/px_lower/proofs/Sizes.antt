@@ -1,5 +1,5 @@
 -- A method has at most one slot for each statement and expression, besides those of `this` and the parameters.
-use Rattle.std.proofs.Common.{◌≡◌, ℕ, ◌+◌, ◌≤◌, ◌++◌, length, length-append, Bool, true, false, List, [], ◌∷◌, map, Option, Some, None, slice_get, refl, sym, ap, ◌∙◌, subst, arith}
+use Rattle.std.proofs.Common.{◌≡◌, ℕ, ◌+◌, ◌≤◌, length, length-append, Bool, true, false, List, [], ◌∷◌, map, Option, Some, None, slice_get, refl, arith}
 use Rattle.std.proofs.lemmas.List.{length-map}
 use Rattle.px_value.specs.declared.value.Value.{Value}
 use Rattle.px_value.specs.declared.value.Value.TheVariants.{Int, Long, Bool as Truth, Text, Null, Ref}
@@ -7,10 +7,8 @@ use Rattle.px_value.specs.declared.ty.Ty.{Ty}
 use Rattle.px_value.specs.declared.ty.Ty.TheVariants as ty
 use Rattle.px_value.specs.declared.op.Op.{Op}
 use Rattle.px_lex.specs.declared.tree.Expr.{Expr}
-use Rattle.px_lex.specs.declared.tree.ExprForm.{ExprForm-F}
 use Rattle.px_lex.specs.declared.tree.ExprForm.TheOpen.{ExprForm-F as e}
 use Rattle.px_lex.specs.declared.tree.Stmt.{Stmt}
-use Rattle.px_lex.specs.declared.tree.StmtForm.{StmtForm-F}
 use Rattle.px_lex.specs.declared.tree.StmtForm.TheOpen.{StmtForm-F as st}
 use Rattle.px_lex.specs.declared.tree.Method.{Method}
 use Rattle.px_types.specs.declared.checked.Checked.{Checked}
@@ -24,12 +22,12 @@ use Rattle.px_code.specs.declared.word.Operand.TheVariants.{Slot, Literal}
 use Rattle.px_lower.specs.declared.out.Out.{Out}
 use Rattle.px_lower.specs.declared.valued.Had.{Had}
 use Rattle.px_lower.specs.declared.valued.Had.TheVariants.{Held, Made}
-use Rattle.px_lower.specs.Emit.{Lasted, operated, operand_of, slotted, slot_of, widened, fitted}
-use Rattle.px_lower.specs.Expressions.{Low, Lowers, valued, name_had, member_had, literal_behind, prefix_low, store, put_name, put_member, put_field, type_of, named_of, expr_low, low}
-use Rattle.px_lower.specs.Statements.{joined, declares_step, declares, Steps, lower_all, block_low, fit_to, local_low, assign_low, return_low, stmt_low, low_stmt, completes}
-use Rattle.px_lower.specs.Programs.{param_ty, begun, ended, lowered_body, method_of, lowered_methods, main_members, lowered}
+use Rattle.px_lower.specs.Emit.{Lasted, operated, operand_of, slotted, widened, fitted}
+use Rattle.px_lower.specs.Expressions.{Low, Lowers, valued, name_had, member_had, literal_behind, prefix_low, store, put_name, put_field, type_of, named_of, expr_low, low}
+use Rattle.px_lower.specs.Statements.{joined, declares_step, declares, Steps, lower_all, fit_to, stmt_low, low_stmt, completes}
+use Rattle.px_lower.specs.Programs.{param_ty, begun, ended, lowered_body, lowered_methods, main_members, lowered}
 use Rattle.px_lower.specs.Size.{expr_parts_step, expr_parts, total, parts_step, parts, AllHaveFew, FewSlots}
-use Rattle.px_lower.proofs.Related.{StepsMeet, related_expr, Triple, LaterTriple, StmtStepsMeet, related_stmt}
+use Rattle.px_lower.proofs.Related.{StepsMeet, related_expr, Triple, StmtStepsMeet, related_stmt}
 
 -- a temporary that is still to come
 abbrev need : Had → ℕ

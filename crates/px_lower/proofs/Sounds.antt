@@ -1,14 +1,12 @@
 -- The statements of each method are sound, and the nodes are numbered in order.
-use Rattle.std.proofs.Common.{◌≡◌, ℕ, zero, suc, ◌+◌, ◌<◌, ◌≤◌, ◌++◌, append-nil, length, length-append, take, Bool, true, false, List, [], ◌∷◌, map, Option, Some, None, refl, sym, ap, ◌∙◌, subst, arith}
+use Rattle.std.proofs.Common.{◌≡◌, ℕ, zero, suc, ◌+◌, ◌<◌, ◌≤◌, ◌++◌, append-nil, length, length-append, Bool, true, false, List, [], ◌∷◌, map, Option, Some, None, refl, sym, ap, ◌∙◌, subst, arith}
 use Rattle.std.proofs.lemmas.List.{length-map}
 use Rattle.px_value.specs.declared.ty.Ty.{Ty}
 use Rattle.px_value.specs.declared.ty.Ty.TheVariants as ty
 use Rattle.px_lex.specs.declared.tree.Expr.{Expr}
 use Rattle.px_lex.specs.declared.tree.Stmt.{Stmt}
-use Rattle.px_lex.specs.declared.tree.StmtForm.{StmtForm-F}
 use Rattle.px_lex.specs.declared.tree.StmtForm.TheOpen.{StmtForm-F as st}
 use Rattle.px_lex.specs.declared.tree.Method.{Method}
-use Rattle.px_lex.specs.declared.tree.Param.{Param}
 use Rattle.px_lex.specs.declared.tree.FieldDecl.{FieldDecl}
 use Rattle.px_types.specs.declared.checked.Checked.{Checked}
 use Rattle.px_types.specs.Members.{methods_in}
@@ -20,18 +18,17 @@ use Rattle.px_code.specs.declared.word.Word.{Word}
 use Rattle.px_code.specs.declared.word.Word.TheVariants as w
 use Rattle.px_code.specs.declared.method.Tree.{Tree}
 use Rattle.px_code.specs.declared.method.Tree.TheVariants.{Do}
-use Rattle.px_code.specs.declared.code.Code.{Code}
 use Rattle.px_code.specs.Machine.{is_return}
 use Rattle.px_lower.specs.declared.out.Out.{Out}
-use Rattle.px_lower.specs.Emit.{Operated, emitted, operand_of, slot_of, fitted}
+use Rattle.px_lower.specs.Emit.{Operated, operand_of, slot_of}
 use Rattle.px_lower.specs.Expressions.{low, type_of}
-use Rattle.px_lower.specs.Statements.{joined, declares_step, declares, last_completes, completes_step, completes, Steps, lower_all, closed, block_low, fit_to, in_scope, local_low, assign_low, return_by, return_low, stmt_low, low_stmt}
-use Rattle.px_lower.specs.Programs.{param_ty, places, method_node, begun, ended, lowered_body, method_of, Methods, lowered_methods, lowered_fields, field_decls, field_node as node_of_field, main_members, lowered_members, lowered}
-use Rattle.px_lower.specs.Sound.{AllBelow, ends_in_return, IsSound, AllSound, MethodsSound, tree_node, nodes_of, method_nodes, field_node, class_nodes, count_up, NodesInOrder}
+use Rattle.px_lower.specs.Statements.{joined, declares_step, declares, last_completes, completes_step, completes, Steps, lower_all, block_low, fit_to, local_low, assign_low, return_by, return_low, stmt_low, low_stmt}
+use Rattle.px_lower.specs.Programs.{param_ty, method_node, begun, ended, lowered_body, method_of, Methods, lowered_methods, lowered_fields, field_decls, field_node as node_of_field, main_members, lowered}
+use Rattle.px_lower.specs.Sound.{ends_in_return, IsSound, AllSound, MethodsSound, method_nodes, field_node, count_up, NodesInOrder}
 use Rattle.px_lower.proofs.Slots.{Rises, rises_next, rises_take}
 use Rattle.px_lower.proofs.Frames.{rises_places}
-use Rattle.px_lower.proofs.Steps.{Inv, Moves, moves_none, moves_then, emits, FineAt, FineOp, Fine, operand_fine, slot_fine, fit_fine, fine}
-use Rattle.px_lower.proofs.Related.{Triple, LaterTriple, StmtStepsMeet, related_stmt}
+use Rattle.px_lower.proofs.Steps.{Inv, Moves, moves_none, moves_then, emits, FineOp, Fine, operand_fine, slot_fine, fit_fine, fine}
+use Rattle.px_lower.proofs.Related.{Triple, StmtStepsMeet, related_stmt}
 
 -- ---- the last statement
 
@@ -215,10 +212,11 @@ module _ (P : Checked) where
       let h = body_inv P number m nodes in
       let n = length o.trees in
       let rest = methods_in_order (number + 1) ms o.nodes in
-      let next : length o.nodes + 1 ≡ length nodes + 1 + suc n = omega (arith, h.count) in
-      (suc n + rest.0,
-      (λ i. ((length nodes + 1) ∷ h.numbers i) ++ (rest.1 ∙ ap (λ b. count_up b rest.0) next) i) ∙ count_then (length nodes + 1) (suc n) rest.0,
-      omega (arith, rest.2, h.count))
+      let next : length o.nodes + 1 ≡ length nodes + 1 + suc n = omega (arith, h.count) in (
+        suc n + rest.0,
+        (λ i. ((length nodes + 1) ∷ h.numbers i) ++ (rest.1 ∙ ap (λ b. count_up b rest.0) next) i) ∙ count_then (length nodes + 1) (suc n) rest.0,
+        omega (arith, rest.2, h.count),
+      )
 
   whole_in_order : (ms : Methods) (fs : List FieldDecl) → Counts 0 ms → method_nodes ms.methods ++ (map field_node (lowered_fields (length ms.nodes) fs) ++ []) ≡ count_up 1 (length (ms.nodes ++ map (node_of_field P) fs))
   whole_in_order ms fs h =

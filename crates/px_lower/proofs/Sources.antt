@@ -1,15 +1,14 @@
 -- The code of each form of an expression does what the form does.
-use Rattle.std.proofs.Common.{◌≡◌, ℕ, ◌+◌, ◌<◌, ◌≤◌, length, List, map, Option, Some, None, unwrap_or, slice_get, refl, sym, ap, ◌∙◌, subst, arith}
+use Rattle.std.proofs.Common.{◌≡◌, ℕ, ◌<◌, length, List, Option, Some, None, unwrap_or, slice_get, refl, sym, ap, ◌∙◌, arith}
 use Rattle.px_value.specs.declared.value.Value.{Value}
 use Rattle.px_value.specs.declared.value.Value.TheVariants.{Int, Long, Bool as Truth, Text, Null, Ref}
 use Rattle.px_value.specs.declared.ty.Ty.{Ty}
 use Rattle.px_value.specs.declared.op.Op.TheVariants as op
 use Rattle.px_value.specs.Operators.{Applied, apply}
-use Rattle.px_value.specs.Outcome.{Outcome, Gives, Throws, Asks, then_run, ◌>>=◌, pure, on_shared, Goes}
+use Rattle.px_value.specs.Outcome.{Outcome, Gives, Throws, Asks, then_run, ◌>>=◌, pure, on_shared}
 use Rattle.px_lex.specs.declared.tree.Sign.{Sign}
 use Rattle.px_lex.specs.declared.tree.Sign.TheVariants as sign
 use Rattle.px_lex.specs.declared.tree.Expr.{Expr}
-use Rattle.px_lex.specs.declared.tree.ExprForm.{ExprForm-F}
 use Rattle.px_lex.specs.declared.tree.ExprForm.TheOpen.{ExprForm-F as e}
 use Rattle.px_types.specs.declared.checked.Checked.{Checked}
 use Rattle.px_types.specs.declared.checked.Named.{Named}
@@ -17,7 +16,6 @@ use Rattle.px_types.specs.declared.checked.Named.TheVariants as named
 use Rattle.px_mean.specs.Effects.{get_field}
 use Rattle.px_mean.specs.Facts.{Facts, facts_in, op_of, prefix_of}
 use Rattle.px_mean.specs.Exec.{Frame as Source, Here, Meant, map_option, no_place, literal, this_value, name_value, member_value, came_to, prefixed, expr_step, meant}
-use Rattle.px_code.specs.declared.word.Operand.{Operand}
 use Rattle.px_code.specs.declared.word.Operand.TheVariants.{Slot, Literal}
 use Rattle.px_code.specs.declared.node.Counter.TheVariants.{Begun}
 use Rattle.px_code.specs.Act.{operand}
@@ -26,14 +24,14 @@ use Rattle.px_lower.specs.declared.out.Out.{Out}
 use Rattle.px_lower.specs.declared.valued.Had.TheVariants.{Held}
 use Rattle.px_lower.specs.declared.valued.Step.TheVariants as step
 use Rattle.px_lower.specs.Emit.{Operated, operand_of}
-use Rattle.px_lower.specs.Expressions.{Low, Lowers, valued, slot_or_null, name_had, member_had, negated, literal_behind, prefix_low, type_of, named_of, no_put, expr_low, low}
+use Rattle.px_lower.specs.Expressions.{Low, Lowers, valued, slot_or_null, name_had, member_had, negated, literal_behind, prefix_low, type_of, no_put, expr_low, low}
 use Rattle.px_lower.specs.Sound.{IsBelow}
-use Rattle.px_lower.proofs.Slots.{Rises, rises_get, get_map}
-use Rattle.px_lower.proofs.Meets.{Left, Meets, meets_source}
-use Rattle.px_lower.proofs.Agree.{Grown, Agree, this_below}
+use Rattle.px_lower.proofs.Slots.{rises_get, get_map}
+use Rattle.px_lower.proofs.Meets.{meets_source}
+use Rattle.px_lower.proofs.Agree.{Agree, this_below}
 use Rattle.px_lower.proofs.Exprs.{ran, goes_flow, HeldAt, Gains, Operates, operates, alone, one, two, ends_op, ends_get, gains_from}
 use Rattle.px_lower.proofs.Puts.{Puts, puts_nothing, name_puts, field_puts}
-use Rattle.px_lower.proofs.Related.{Pair, Later, StepsMeet, related_expr}
+use Rattle.px_lower.proofs.Related.{StepsMeet, related_expr}
 
 module _ (Q W : Type 0) (P : Checked) (c0 : Target W) where
   abbrev V : Type 0

@@ -1,21 +1,18 @@
 -- What lowering an expression keeps: the nodes are in order, and no statement names a slot that isn't there.
-use Rattle.std.proofs.Common.{◌≡◌, ℕ, zero, suc, ◌+◌, ◌<◌, ◌≤◌, ◌++◌, append-nil, length, length-append, List, [], ◌∷◌, map, Option, Some, None, slice_get, refl, sym, ap, ◌∙◌, subst, arith}
+use Rattle.std.proofs.Common.{◌≡◌, ℕ, zero, suc, ◌+◌, ◌<◌, ◌≤◌, ◌++◌, length, length-append, List, [], ◌∷◌, map, Option, Some, None, slice_get, refl, ap, ◌∙◌, arith}
 use Rattle.std.proofs.lemmas.List.{map-append}
 use Rattle.px_value.specs.declared.value.Value.{Value}
 use Rattle.px_value.specs.declared.value.Value.TheVariants.{Int, Long, Bool as Truth, Text, Null, Ref}
 use Rattle.px_value.specs.declared.ty.Ty.{Ty}
 use Rattle.px_value.specs.declared.ty.Ty.TheVariants as ty
 use Rattle.px_value.specs.declared.op.Op.{Op}
-use Rattle.px_value.specs.declared.op.Op.TheVariants as op
-use Rattle.px_lex.specs.declared.tree.Sign.{Sign}
 use Rattle.px_lex.specs.declared.tree.Expr.{Expr}
 use Rattle.px_lex.specs.declared.tree.ExprForm.{ExprForm-F}
 use Rattle.px_lex.specs.declared.tree.ExprForm.TheOpen.{ExprForm-F as e}
 use Rattle.px_types.specs.declared.checked.Checked.{Checked}
 use Rattle.px_types.specs.declared.checked.Named.{Named}
 use Rattle.px_types.specs.declared.checked.Named.TheVariants as named
-use Rattle.px_mean.specs.Facts.{op_of, prefix_of}
-use Rattle.px_mean.specs.Exec.{literal}
+use Rattle.px_mean.specs.Facts.{prefix_of}
 use Rattle.px_code.specs.declared.word.Operand.{Operand}
 use Rattle.px_code.specs.declared.word.Operand.TheVariants.{Slot, Literal}
 use Rattle.px_code.specs.declared.word.Word.{Word}

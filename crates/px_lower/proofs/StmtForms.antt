@@ -1,16 +1,15 @@
 -- The same of statements.
-use Rattle.std.proofs.Common.{◌≡◌, ℕ, Bool, true, false, List, [], ◌∷◌, ◌++◌, append-nil, map, Option, Some, None, refl, sym, ap, ◌∙◌, subst}
+use Rattle.std.proofs.Common.{◌≡◌, ℕ, Bool, true, false, List, [], ◌∷◌, ◌++◌, append-nil, map, Option, sym, ap, ◌∙◌}
 use Rattle.px_value.specs.declared.ty.Ty.{Ty}
 use Rattle.px_lex.specs.declared.tree.Name.{Name}
 use Rattle.px_lex.specs.declared.tree.TypeName.{TypeName}
 use Rattle.px_lex.specs.declared.tree.Expr.{Expr}
-use Rattle.px_lex.specs.declared.tree.Stmt.{Stmt, fold-Stmt, fold_out-Stmt}
+use Rattle.px_lex.specs.declared.tree.Stmt.{Stmt, fold_out-Stmt}
 use Rattle.px_lex.specs.declared.tree.StmtForm.{StmtForm, StmtForm-F, ind-StmtForm, fold-StmtForm, fold-roll-StmtForm, roll-StmtForm, map-StmtForm}
 use Rattle.px_lex.specs.declared.tree.StmtForm.TheVariants.{Block, rolls-Block, Empty, rolls-Empty, Local, rolls-Local, Assign, rolls-Assign, Return, rolls-Return}
 use Rattle.px_lex.specs.declared.tree.StmtForm.TheOpen.{StmtForm-F as f}
 use Rattle.px_types.specs.declared.checked.Checked.{Checked}
 use Rattle.px_mean.specs.Facts.{named_ty}
-use Rattle.px_lower.specs.declared.out.Out.{Out}
 use Rattle.px_lower.specs.Statements.{Steps, whole, joined, declares_step, declares, last_completes, completes_step, completes, block_low, local_low, assign_low, return_low, stmt_low, placed, low_stmt}
 
 abbrev L : Type 0

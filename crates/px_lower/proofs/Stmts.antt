@@ -6,29 +6,28 @@ use Rattle.px_value.specs.declared.ty.Ty.{Ty}
 use Rattle.px_value.specs.Outcome.{Outcome, Gives, Throws, Asks, then_run, ◌>>=◌, pure, Flow, Goes, Returns, goes_on, in_order}
 use Rattle.px_lex.specs.declared.tree.Expr.{Expr}
 use Rattle.px_lex.specs.declared.tree.Stmt.{Stmt}
-use Rattle.px_lex.specs.declared.tree.StmtForm.{StmtForm-F}
 use Rattle.px_lex.specs.declared.tree.StmtForm.TheOpen.{StmtForm-F as st}
 use Rattle.px_types.specs.declared.checked.Checked.{Checked}
-use Rattle.px_mean.specs.Facts.{Facts, facts_in, named_ty}
+use Rattle.px_mean.specs.Facts.{facts_in, named_ty}
 use Rattle.px_mean.specs.Exec.{Locals, Frame as Source, Here, Meant, with_slots, meant, fit, leaves, scoped, declare, goes, returned, map_option, stmt_step, done_by}
 use Rattle.px_mean.proofs.Forms.{meant_type}
 use Rattle.px_code.specs.declared.method.Tree.{Tree}
 use Rattle.px_code.specs.declared.word.Word.TheVariants as w
 use Rattle.px_code.specs.declared.node.Counter.TheVariants.{Begun}
-use Rattle.px_code.specs.Act.{Slots, operand}
+use Rattle.px_code.specs.Act.{Slots}
 use Rattle.px_code.specs.CodeRun.{Frame as Target, with_slot, word_run}
 use Rattle.px_lower.specs.declared.out.Out.{Out}
-use Rattle.px_lower.specs.Emit.{Operated, emitted, operand_of, slot_of, fitted}
-use Rattle.px_lower.specs.Expressions.{Lowers, low, type_of}
+use Rattle.px_lower.specs.Emit.{Operated, emitted, operand_of, slot_of}
+use Rattle.px_lower.specs.Expressions.{low, type_of}
 use Rattle.px_lower.specs.Statements.{joined, declares_step, declares, Steps, lower_all, closed, block_low, fit_to, in_scope, local_low, return_by, return_low, stmt_low, low_stmt}
-use Rattle.px_lower.proofs.Slots.{Keeps, Rises, rises_le, rises_next, rises_take, map_keeps, written_same, written_below}
-use Rattle.px_lower.proofs.Runs.{Ran, More, run, more_none, more_trees, emitted_run}
-use Rattle.px_lower.proofs.Meets.{Left, Meets, meets_bind, meets_source, meets_more, meets_at}
+use Rattle.px_lower.proofs.Slots.{Rises, rises_le, rises_next, rises_take, map_keeps, written_same, written_below}
+use Rattle.px_lower.proofs.Runs.{Ran, More, run, more_trees, emitted_run}
+use Rattle.px_lower.proofs.Meets.{Left, Meets, meets_bind, meets_source, meets_at}
 use Rattle.px_lower.proofs.Agree.{Grown, grown_then, grown_emitted, Agree, this_below, scope_keeps}
 use Rattle.px_lower.proofs.Exprs.{HeldAt, MadeAt, Gains, Operates, operates, grown_slotted, slots_in, fits}
 use Rattle.px_lower.proofs.Puts.{Puts}
-use Rattle.px_lower.proofs.Sources.{Same, same}
-use Rattle.px_lower.proofs.Related.{Triple, LaterTriple, StmtStepsMeet, related_stmt}
+use Rattle.px_lower.proofs.Sources.{same}
+use Rattle.px_lower.proofs.Related.{Triple, StmtStepsMeet, related_stmt}
 
 -- what a statement that declares n locals adds
 pub record Adds (o o' : Out) (n : ℕ) : Type 0 where
@@ -116,14 +115,17 @@ module _ (Q W : Type 0) (P : Checked) (c0 : Target W) where
       }
 
   closed_after : (n m : ℕ) (o : Out) (r : Outcome Q (Source W) Fl) → n ≡ m → Meets Q W Fl r (here o) same_flow (After o) → Meets Q W Fl (leaves m r) (here (closed n o)) same_flow (After (closed n o))
-  closed_after n m o (Gives Goes s) e h =
-      (h.0, h.1, record {
-        scoped = sym (take-map h.0.locals n o.scope) ∙ ap (take n) h.2.scoped ∙ ap (λ k. take k s.locals.slots) e;
-        this = h.2.this;
-        shared = h.2.shared;
-        rises = rises_take n 1 o.scope o.local h.2.rises;
-        room = h.2.room;
-      })
+  closed_after n m o (Gives Goes s) e h = (
+    h.0,
+    h.1,
+    record {
+      scoped = sym (take-map h.0.locals n o.scope) ∙ ap (take n) h.2.scoped ∙ ap (λ k. take k s.locals.slots) e;
+      this = h.2.this;
+      shared = h.2.shared;
+      rises = rises_take n 1 o.scope o.local h.2.rises;
+      room = h.2.room;
+    },
+  )
   closed_after n m o (Gives (Returns v) s) e h = h
   closed_after n m o (Throws t s) e h = h
   closed_after n m o (Asks q) e h = h

@@ -1,5 +1,5 @@
 -- The values of expressions with parts, as the code makes them.
-use Rattle.std.proofs.Common.{◌≡◌, ℕ, Option, Some, None, Result, Ok, Err, IfOk, OnOk, refl, sym, ap, ◌∙◌}
+use Rattle.std.proofs.Common.{◌≡◌, ℕ, Option, Some, None, Result, Ok, Err, IfOk, OnOk, sym, ap, ◌∙◌}
 use Rattle.px_value.specs.declared.value.Value.{Value}
 use Rattle.px_value.specs.declared.op.Op.{Op}
 use Rattle.px_lex.specs.declared.tree.Sign.{Sign}
@@ -12,7 +12,7 @@ use Rattle.px_code.specs.declared.word.Operand.{Operand}
 use Rattle.px_code.specs.declared.word.Operand.TheVariants.{Literal}
 use Rattle.px_lower.specs.declared.out.Out.{Out}
 use Rattle.px_lower.specs.declared.valued.Had.{Had}
-use Rattle.px_lower.specs.declared.valued.Had.TheVariants.{Held, Made}
+use Rattle.px_lower.specs.declared.valued.Had.TheVariants.{Held}
 use Rattle.px_lower.specs.declared.valued.Step.TheVariants as step
 use Rattle.px_lower.specs.declared.valued.Valued.{Valued}
 use Rattle.px_value.specs.declared.ty.Ty.{Ty}

@@ -1,5 +1,5 @@
 -- The code of a program, from its parts.
-use Rattle.std.proofs.Common.{◌≡◌, ℕ, List, [], ◌∷◌, ◌++◌, length, map, codes, refl, sym, ap, ◌∙◌}
+use Rattle.std.proofs.Common.{◌≡◌, ℕ, List, [], ◌∷◌, ◌++◌, length, map, codes, ap, ◌∙◌}
 use Rattle.px_lex.specs.declared.tree.Member.{Member}
 use Rattle.px_types.specs.declared.checked.Checked.{Checked}
 use Rattle.px_types.specs.Members.{methods_in}

@@ -1,5 +1,5 @@
 -- Statements as they come, and how a value is had in the end.
-use Rattle.std.specs.Prelude.{ℕ, ◌+◌, List, [], ◌∷◌, ◌++◌, length, Option, Some, None, slice_get}
+use Rattle.std.specs.Prelude.{ℕ, ◌+◌, [], ◌∷◌, ◌++◌, length, Option, Some, None, slice_get}
 use Rattle.px_value.specs.declared.value.Value.TheVariants as value
 use Rattle.px_value.specs.declared.ty.Ty.{Ty}
 use Rattle.px_value.specs.declared.ty.Ty.TheVariants as ty

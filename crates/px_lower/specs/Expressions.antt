@@ -1,5 +1,5 @@
 -- Expressions, and the assignment to one.
-use Rattle.std.specs.Prelude.{ℕ, List, [], ◌∷◌, Option, Some, None, slice_get, Ok, Err}
+use Rattle.std.specs.Prelude.{ℕ, List, Option, Some, None, slice_get, Ok, Err}
 use Rattle.px_value.specs.declared.value.Value.{Value}
 use Rattle.px_value.specs.declared.value.Value.TheVariants.{Null}
 use Rattle.px_value.specs.declared.ty.Ty.{Ty}
@@ -25,7 +25,6 @@ use Rattle.px_lower.specs.declared.valued.Step.{Step}
 use Rattle.px_lower.specs.declared.valued.Step.TheVariants as step
 use Rattle.px_lower.specs.declared.valued.Had.{Had}
 use Rattle.px_lower.specs.declared.valued.Had.TheVariants.{Held, Made}
-use Rattle.px_lower.specs.declared.valued.Valued.{Valued}
 use Rattle.px_lower.specs.Emit.{Lasted, Operated, emitted, operand_of, slot_of, fitted}
 
 abbrev pub type_of : Checked → ℕ → Ty

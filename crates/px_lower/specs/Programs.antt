@@ -1,5 +1,5 @@
 -- Methods, fields and the whole program.
-use Rattle.std.specs.Prelude.{ℕ, ◌+◌, Bool, true, false, List, [], ◌∷◌, ◌++◌, length, map, Option, Some, None, codes}
+use Rattle.std.specs.Prelude.{ℕ, ◌+◌, Bool, true, false, List, [], ◌∷◌, ◌++◌, length, map, Some, None, codes}
 use Rattle.px_value.specs.declared.ty.Ty.{Ty}
 use Rattle.px_value.specs.declared.ty.Ty.TheVariants.{Ref}
 use Rattle.px_lex.specs.declared.tree.Class.{Class}

@@ -1,5 +1,5 @@
 -- How many slots a method has at most.
-use Rattle.std.specs.Prelude.{ℕ, ◌+◌, ◌≤◌, List, [], ◌∷◌, length, Option, Some, None}
+use Rattle.std.specs.Prelude.{ℕ, ◌+◌, ◌≤◌, List, [], ◌∷◌, length, Some, None}
 use Rattle.px_lex.specs.declared.tree.Expr.{Expr, fold-Expr}
 use Rattle.px_lex.specs.declared.tree.ExprForm.{ExprForm-F}
 use Rattle.px_lex.specs.declared.tree.ExprForm.TheOpen.{ExprForm-F as e}

@@ -1,5 +1,5 @@
 -- What is sound about the statements of a method.
-use Rattle.std.specs.Prelude.{◌≡◌, ℕ, zero, suc, ◌+◌, ◌<◌, ◌≤◌, Bool, true, false, List, [], ◌∷◌, ◌++◌, length, map, Option, Some, None}
+use Rattle.std.specs.Prelude.{◌≡◌, ℕ, zero, suc, ◌+◌, ◌<◌, Bool, true, false, List, [], ◌∷◌, ◌++◌, length, map, Option, Some, None}
 use Rattle.px_types.specs.declared.checked.Checked.{Checked}
 use Rattle.px_code.specs.declared.word.Operand.{Operand}
 use Rattle.px_code.specs.declared.word.Operand.TheVariants.{Slot, Literal}
@@ -10,7 +10,6 @@ use Rattle.px_code.specs.declared.method.Tree.{Tree}
 use Rattle.px_code.specs.declared.method.Tree.TheVariants.{Do}
 use Rattle.px_code.specs.declared.class.Field.{Field}
 use Rattle.px_code.specs.declared.class.Class.{Class}
-use Rattle.px_code.specs.declared.code.Code.{Code}
 use Rattle.px_code.specs.Machine.{is_return}
 use Rattle.px_lower.specs.Programs.{lowered}
 

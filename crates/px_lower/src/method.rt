@@ -84,7 +84,12 @@ fn begin(
 
 impl Out {
     // A body that can reach its end returns there.
-    fn end(&mut self, checked: &Checked, m: &tree::Method, completes: bool) -> Result<(), AllocError>
+    fn end(
+        &mut self,
+        checked: &Checked,
+        m: &tree::Method,
+        completes: bool,
+    ) -> Result<(), AllocError>
         ensures { OnOk result (self.new ≡ ended checked.now m.now completes self.old) }
     {
         if completes {
@@ -153,7 +158,10 @@ pub fn lower_method(
         return Err(AllocError);
     }
     let Out {
-        nodes, slots, trees, ..
+        nodes,
+        slots,
+        trees,
+        ..
     } = body(alloc, checked, number, m, nodes)?;
     Ok(Lowered {
         method: Method {

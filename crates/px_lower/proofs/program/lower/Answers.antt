@@ -1,4 +1,4 @@
-use Rattle.std.proofs.Common.{◌≡◌, ap, ◌∙◌, ◌++◌, ◌∷◌, [], List}
+use Rattle.std.proofs.Common.{ap, ◌∙◌, ◌++◌, ◌∷◌, [], List}
 use Rattle.px_code.specs.declared.class.Class.{Class}
 use Rattle.px_lower.proofs.Whole.{lowered_is}
 use Rattle.px_lower.proofs.program.lower.Goals as goal
