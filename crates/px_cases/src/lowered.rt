@@ -1,7 +1,7 @@
 //! Programs, and what they are lowered to.
 use crate::words::push_code;
-use px_code::Code;
-use px_lower::lower;
+use px_code::{Code, Counter, Node, NodeKind};
+use px_lower::{law, lower};
 use px_parse::parse;
 use px_types::{Checked, check};
 use std::alloc::Global;
@@ -97,6 +97,45 @@ fn programs_are_lowered(rt: HostRuntime) -> Result<(), Fail> {
             None => text.push_str("refused")?,
         }
         assert_eq!(rt; text.as_str(), want, "{members}");
+    }
+    Ok(())
+}
+
+// A node of method 1, in line 1.
+fn node(kind: NodeKind, counter: Counter) -> Node {
+    Node {
+        kind,
+        line: 1,
+        method: Some(1),
+        counter: Some(counter),
+    }
+}
+
+// Statements and expressions are numbered from 0, beginning with the block of the body.
+#[test]
+fn nodes_are_counted(rt: HostRuntime) -> Result<(), Fail> {
+    let alloc = rt.alloc();
+    law::keeps_meaning::<u8, u8>();
+    let want = [
+        node(NodeKind::Method, Counter::Entered(1)),
+        node(NodeKind::Normal, Counter::Begun(2)),
+        node(NodeKind::Normal, Counter::Completed(2)),
+        node(NodeKind::Normal, Counter::Begun(5)),
+        node(NodeKind::Normal, Counter::Begun(8)),
+        node(NodeKind::Normal, Counter::ReachedEnd(1)),
+        Node {
+            kind: NodeKind::Field,
+            line: 1,
+            method: None,
+            counter: None,
+        },
+    ];
+    match code(
+        alloc,
+        "long n; void f(long x) { long y = 2 + 3; n = x; y = x; }",
+    )? {
+        Some(code) => assert_eq!(rt; code.nodes.as_slice(), want.as_slice()),
+        None => assert!(rt; false),
     }
     Ok(())
 }
