@@ -1,0 +1,91 @@
+-- Statements as they come, and how a value is had in the end.
+use Rattle.std.specs.Prelude.{ℕ, ◌+◌, [], ◌∷◌, ◌++◌, length, Option, Some, None, slice_get}
+use Rattle.px_value.specs.declared.value.Value.TheVariants as value
+use Rattle.px_value.specs.declared.ty.Ty.{Ty}
+use Rattle.px_value.specs.declared.ty.Ty.TheVariants as ty
+use Rattle.px_value.specs.declared.op.Op.TheVariants as op
+use Rattle.px_lex.specs.declared.token.Token.{Token}
+use Rattle.px_types.specs.declared.checked.Checked.{Checked}
+use Rattle.px_code.specs.declared.word.Operand.{Operand}
+use Rattle.px_code.specs.declared.word.Operand.TheVariants.{Slot, Literal}
+use Rattle.px_code.specs.declared.word.Word.{Word}
+use Rattle.px_code.specs.declared.word.Word.TheVariants as w
+use Rattle.px_code.specs.declared.method.Tree.TheVariants.{Do}
+use Rattle.px_code.specs.declared.node.Node.{Node}
+use Rattle.px_code.specs.declared.node.NodeKind.TheVariants as kind
+use Rattle.px_code.specs.declared.node.Counter.{Counter}
+use Rattle.px_code.specs.declared.node.Counter.TheVariants.{Begun, Completed}
+use Rattle.px_lower.specs.declared.out.Out.{Out}
+use Rattle.px_lower.specs.declared.valued.Step.{Step}
+use Rattle.px_lower.specs.declared.valued.Step.TheVariants as step
+use Rattle.px_lower.specs.declared.valued.Had.{Had}
+use Rattle.px_lower.specs.declared.valued.Had.TheVariants.{Held, Made}
+use Rattle.px_lower.specs.declared.valued.Valued.{Valued}
+
+-- ---- nodes
+
+abbrev pub line_in : Option Token → ℕ
+line_in None = 0
+line_in (Some token) = token.line
+
+-- the line of a token
+abbrev pub line_of : Checked → ℕ → ℕ
+line_of P token = line_in (slice_get P.program.tokens token)
+
+-- the node of a normal statement
+abbrev pub node_at : Checked → ℕ → ℕ → Counter → Node
+node_at P method token counter = record { kind = kind.Normal; line = line_of P token; method = Some method; counter = Some counter }
+
+-- one more statement, and its node
+abbrev pub emitted : Checked → Word → ℕ → Counter → Out → Out
+emitted P word token counter o = record o { trees = o.trees ++ Do (length o.nodes + 1) word ∷ []; nodes = o.nodes ++ node_at P o.method token counter ∷ [] }
+
+-- ---- values
+
+-- an expression that is lowered: its value, and what is lowered so far
+pub record Lasted : Type 0 where
+  pub out : Out
+  pub value : Valued
+
+pub record Operated : Type 0 where
+  pub out : Out
+  pub operand : Operand
+
+-- the statement that writes this slot
+abbrev pub writes : Step → ℕ → Word
+writes (step.Op o a b) to = w.Op o to a b
+writes (step.Get a class field) to = w.Get to a class field
+
+-- one more temporary
+abbrev pub with_temp : Ty → Out → Out
+with_temp t o = record o { slots = o.slots ++ t ∷ [] }
+
+-- the value as an operand: a statement writes it into a new temporary
+abbrev pub operated : Checked → ℕ → Had → Out → Operated
+operated P token (Held a) o = record { out = o; operand = a }
+operated P token (Made s t counter) o = record { out = emitted P (writes s (length o.slots)) token counter (with_temp t o); operand = Slot (length o.slots) }
+
+abbrev pub operand_of : Checked → Lasted → Operated
+operand_of P x = operated P x.value.token x.value.had x.out
+
+-- The value in this slot: the last statement writes it, or one of the statement of the source that has this number and this first token.
+abbrev pub slotted : Checked → ℕ → (id token : ℕ) → ℕ → Had → Out → Out
+slotted P slot id token at (Held a) o = emitted P (w.Set slot a) token (Begun id) o
+slotted P slot id token at (Made s t counter) o = emitted P (writes s slot) at counter o
+
+abbrev pub slot_of : Checked → ℕ → (id token : ℕ) → Lasted → Out
+slot_of P slot id token x = slotted P slot id token x.value.token x.value.had x.out
+
+-- ---- an int where a long is wanted
+
+abbrev pub widened_operand : (id token : ℕ) → Operated → Lasted
+widened_operand id token a = record { out = a.out; value = record { id = id; token = token; had = Made (step.Op op.Widen a.operand None) ty.Long (Completed id) } }
+
+-- a literal is widened here, and any other value by a statement
+abbrev pub widened : Checked → (id token : ℕ) → Had → Out → Lasted
+widened P id token (Held (Literal (value.Int n))) o = record { out = o; value = record { id = id; token = token; had = Held (Literal (value.Long n)) } }
+widened P id token had o = widened_operand id token (operated P token had o)
+
+abbrev pub fitted : Checked → Ty → Ty → Lasted → Lasted
+fitted P ty.Int ty.Long x = widened P x.value.id x.value.token x.value.had x.out
+fitted P from to x = x

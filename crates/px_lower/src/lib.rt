@@ -1,0 +1,17 @@
+//! From the syntax tree to normal statements.
+#![tactic(auto)]
+
+mod assign;
+mod expression;
+mod facts;
+pub mod law;
+mod locals;
+mod method;
+mod operators;
+mod out;
+mod program;
+mod scope;
+mod statement;
+mod valued;
+
+pub use program::lower;
