@@ -11,7 +11,7 @@ use Rattle.px_types.specs.declared.checked.Checked.{Checked}
 use Rattle.px_mean.specs.Facts.{prefix_of}
 use Rattle.px_mean.specs.Exec.{literal}
 use Rattle.px_code.specs.declared.word.Operand.TheVariants.{Slot, Literal}
-use Rattle.px_lower.specs.declared.out.Out.{Out}
+use Rattle.px_lower.specs.declared.draft.Draft.{Draft}
 use Rattle.px_lower.specs.Expressions.{Low, Lowers, no_put, low_value, held, name_low, member_low, binary_low, literal_behind, prefix_low, put_name, put_field, type_of, named_of, expr_low, placed, low}
 
 abbrev L : Type 0
@@ -50,7 +50,7 @@ low_binary P e l r l' r' s at h u v = at_form P e (f.Binary s at l' r') (h ∙ (
 -- ---- only a name and a field are places
 
 abbrev IsNoPlace : Low → Type 0
-IsNoPlace l = (from : Ty) (r : Lowers) (id token : ℕ) (o : Out) → o ≡ l.put from r id token o
+IsNoPlace l = (from : Ty) (r : Lowers) (id token : ℕ) (o : Draft) → o ≡ l.put from r id token o
 
 abbrev OfForm : Checked → ExprForm → Type 0
 OfForm P form = ((n : NameData) → form ≡ Name n → ⊥) → ((x : Expr) (n : NameData) → form ≡ Field x n → ⊥) → (i t : ℕ) → IsNoPlace (low_form P form i t)

@@ -22,7 +22,7 @@ use Rattle.px_code.specs.declared.node.Counter.TheVariants.{ReachedEnd}
 use Rattle.px_code.specs.declared.word.Word.TheVariants as w
 use Rattle.px_code.specs.Act.{Slots}
 use Rattle.px_code.specs.CodeRun.{Frame as Target, Traced, first_slots, word_run, leaves_frame as code_leaves, enters as code_enters, code_run}
-use Rattle.px_lower.specs.declared.out.Out.{Out}
+use Rattle.px_lower.specs.declared.draft.Draft.{Draft}
 use Rattle.px_lower.specs.Statements.{declares, completes, low_stmt}
 use Rattle.px_lower.specs.Programs.{param_ty, places, begun, ended, lowered_body, method_of, lowered_methods, main_members, lowered}
 use Rattle.px_lower.specs.Law.{untraced, Takes, method_at, KeepsMeaning}
@@ -53,7 +53,7 @@ module _ (Q W : Type 0) (P : Checked) where
   abbrev Fl : Type 0
   Fl = Flow Value
 
-  abbrev here : Target W → Out → Ran Q W
+  abbrev here : Target W → Draft → Ran Q W
   here c o = run Q W o.trees c
 
   -- ---- the end of a body
@@ -61,7 +61,7 @@ module _ (Q W : Type 0) (P : Checked) where
   abbrev Left_by : Outcome Q (Source W) Fl → Ran Q W → Type 0
   Left_by o p = leaves_frame o ≡ untraced (code_leaves p)
 
-  left_as_is : (o1 : Out) (c0 : Target W) (o : Outcome Q (Source W) Fl) (p : Ran Q W) → Meets Q W Fl o p (λ f. f) (After Q W P c0 o1) → Left_by o p
+  left_as_is : (o1 : Draft) (c0 : Target W) (o : Outcome Q (Source W) Fl) (p : Ran Q W) → Meets Q W Fl o p (λ f. f) (After Q W P c0 o1) → Left_by o p
   left_as_is o1 c0 (Gives Goes s) p m = ap (λ (z : Shared W). Gives None z) (sym m.2.shared) ∙ ap (λ (x : Ran Q W). untraced (code_leaves x)) (sym m.1)
   left_as_is o1 c0 (Gives (Returns v) s) p m = ap (λ (z : Shared W). Gives v z) (sym m.2) ∙ ap (λ (x : Ran Q W). untraced (code_leaves x)) (sym m.1)
   left_as_is o1 c0 (Throws t s) p m = ap (λ (z : Shared W). Throws t z) (sym m.2) ∙ ap (λ (x : Ran Q W). untraced (code_leaves x)) (sym m.1)
@@ -74,7 +74,7 @@ module _ (Q W : Type 0) (P : Checked) where
   left_then (Throws t c) node = refl
   left_then (Asks q) node = refl
 
-  left_ended : (m : Method) (b : Bool) (o : Out) (c : Target W) → untraced (code_leaves (here c (ended P m b o))) ≡ untraced (code_leaves (here c o))
+  left_ended : (m : Method) (b : Bool) (o : Draft) (c : Target W) → untraced (code_leaves (here c (ended P m b o))) ≡ untraced (code_leaves (here c o))
   left_ended m true o c = ap (λ (x : Ran Q W). untraced (code_leaves x)) (emitted_run Q W P (w.Return None) m.name.token (ReachedEnd o.method) o c) ∙ left_then (here c o) (length o.nodes + 1)
   left_ended m false o c = refl
 

@@ -16,7 +16,7 @@ use Rattle.px_code.specs.declared.word.Word.TheVariants as w
 use Rattle.px_code.specs.declared.node.Counter.TheVariants.{Begun}
 use Rattle.px_code.specs.Act.{Slots, Writes, operand, at_object, comes, acted}
 use Rattle.px_code.specs.CodeRun.{Frame as Target, word_run, traced}
-use Rattle.px_lower.specs.declared.out.Out.{Out}
+use Rattle.px_lower.specs.declared.draft.Draft.{Draft}
 use Rattle.px_lower.specs.Emit.{Operated, operand_of, slot_of, fitted}
 use Rattle.px_lower.specs.Expressions.{Lowers, store, put_by, put_name, put_member, put_field}
 use Rattle.px_lower.proofs.Slots.{Keeps, Rises, rises_get, map_written, written_below, set_past, operand_keeps}
@@ -35,29 +35,29 @@ module _ (Q W : Type 0) (P : Checked) (c0 : Target W) where
   abbrev flows : {A : Type 0} → A → Rattle.px_value.specs.Outcome.Flow Value
   flows a = Goes
 
-  abbrev here : Out → Ran Q W
+  abbrev here : Draft → Ran Q W
   here o = ran Q W P c0 o
 
-  abbrev Held : Out → Source W → Target W → Operand → ℕ → Value → Source W → Target W → Type 0
+  abbrev Held : Draft → Source W → Target W → Operand → ℕ → Value → Source W → Target W → Type 0
   Held o s c a n = HeldAt Q W P c0 o s c a n
 
-  abbrev pub Agrees : Out → U → Source W → Target W → Type 0
+  abbrev pub Agrees : Draft → U → Source W → Target W → Type 0
   Agrees o u s c = Agree W o s c
 
-  pub record Puts (r : Here Q W U) (l : Out → Out) : Type 0 where
-    pub grown : (o : Out) → Grown o (l o)
-    pub runs : (o : Out) (s : Source W) (c : Target W) → here o ≡ Gives Goes c → Agree W o s c → Meets Q W U (r s) (here (l o)) flows (Agrees (l o))
+  pub record Puts (r : Here Q W U) (l : Draft → Draft) : Type 0 where
+    pub grown : (o : Draft) → Grown o (l o)
+    pub runs : (o : Draft) (s : Source W) (c : Target W) → here o ≡ Gives Goes c → Agree W o s c → Meets Q W U (r s) (here (l o)) flows (Agrees (l o))
 
   pub puts_nothing : Puts (pure tt) (λ o. o)
   puts_nothing = record { grown = grown_none; runs = λ o s c q a. (c, q, a) }
 
   -- ---- a variable
 
-  grown_store : (m : Option ℕ) (l : Lowers) (r : Here Q W Value) (id token : ℕ) → Gains Q W P c0 r l → (o : Out) → Grown o (store P m id token (l o))
+  grown_store : (m : Option ℕ) (l : Lowers) (r : Here Q W Value) (id token : ℕ) → Gains Q W P c0 r l → (o : Draft) → Grown o (store P m id token (l o))
   grown_store None l r id token h o = (operates Q W P c0 r l h).grown o
   grown_store (Some x) l r id token h o = grown_then o (l o).out _ (h.grown o) (grown_slotted Q W P c0 x id token (l o).value.token (l o).value.had (l o).out)
 
-  agree_written : (o o' : Out) (s s1 : Source W) (c c1 : Target W) (p x : ℕ) (v : Value) → Agree W o s c → Grown o o' → slice_get o.scope p ≡ Some x → MadeAt Q W P c0 o s c x v s1 c1 → Agree W o' (with_slots s1 (slice_set s1.locals.slots p v)) c1
+  agree_written : (o o' : Draft) (s s1 : Source W) (c c1 : Target W) (p x : ℕ) (v : Value) → Agree W o s c → Grown o o' → slice_get o.scope p ≡ Some x → MadeAt Q W P c0 o s c x v s1 c1 → Agree W o' (with_slots s1 (slice_set s1.locals.slots p v)) c1
   agree_written o o' s s1 c c1 p x v a g e m =
       let above = rises_get 1 o.scope o.local p x a.rises e in
       let above0 : 0 < x = omega (arith, above.0) in
@@ -69,7 +69,7 @@ module _ (Q W : Type 0) (P : Checked) (c0 : Target W) where
         room = omega (arith, g.local, g.slots, a.room);
       }
 
-  agree_past : (o : Out) (s : Source W) (c : Target W) (p : ℕ) (v : Value) → Agree W o s c → slice_get o.scope p ≡ None → Agree W o (with_slots s (slice_set s.locals.slots p v)) c
+  agree_past : (o : Draft) (s : Source W) (c : Target W) (p : ℕ) (v : Value) → Agree W o s c → slice_get o.scope p ≡ None → Agree W o (with_slots s (slice_set s.locals.slots p v)) c
   agree_past o s c p v a e = record {
     scoped = sym (set_past o.scope c.locals p v e) ∙ ap (λ (vs : List Value). slice_set vs p v) a.scoped;
     this = a.this;
@@ -78,7 +78,7 @@ module _ (Q W : Type 0) (P : Checked) (c0 : Target W) where
     room = a.room;
   }
 
-  stored : (m : Option ℕ) (r : Here Q W Value) (l : Lowers) (p id token : ℕ) → Gains Q W P c0 r l → (o : Out) (s : Source W) (c : Target W) → here o ≡ Gives Goes c → Agree W o s c → slice_get o.scope p ≡ m → Meets Q W U (then_run (r s) (assign_slot p)) (here (store P m id token (l o))) flows (Agrees (store P m id token (l o)))
+  stored : (m : Option ℕ) (r : Here Q W Value) (l : Lowers) (p id token : ℕ) → Gains Q W P c0 r l → (o : Draft) (s : Source W) (c : Target W) → here o ≡ Gives Goes c → Agree W o s c → slice_get o.scope p ≡ m → Meets Q W U (then_run (r s) (assign_slot p)) (here (store P m id token (l o))) flows (Agrees (store P m id token (l o)))
   stored None r l p id token h o s c q a e =
       let op = operates Q W P c0 r l h in
       let x = operand_of P (l o) in
@@ -111,7 +111,7 @@ module _ (Q W : Type 0) (P : Checked) (c0 : Target W) where
       by (Text n) = (_, refl, h)
       by Null = (_, refl, h)
 
-  put_last : (of : Operand) (class place id token : ℕ) (vo : Value) (r : V) (x : Operated) (o : Out) (s : Source W) (c : Target W) → Agree W o s c → Grown o x.out → ((d : Slots) → Keeps (length o.slots) c.locals d → operand d of ≡ vo)
+  put_last : (of : Operand) (class place id token : ℕ) (vo : Value) (r : V) (x : Operated) (o : Draft) (s : Source W) (c : Target W) → Agree W o s c → Grown o x.out → ((d : Slots) → Keeps (length o.slots) c.locals d → operand d of ≡ vo)
       → Meets Q W Value r (here x.out) flows (Held o s c x.operand (length x.out.slots)) → Meets Q W U (then_run r (λ v. on_shared (put_cell vo place v))) (here (put_by P of class place id token x)) flows (Agrees (put_by P of class place id token x))
   put_last of class place id token vo r x o s c a g keep h =
       let word = w.Put of class place x.operand in
@@ -147,11 +147,11 @@ module _ (Q W : Type 0) (P : Checked) (c0 : Target W) where
   grown_member (named.Local p) of id token x = grown_none x.out
   grown_member (named.Field class place) of id token x = grown_emitted P (w.Put of class place x.operand) token (Begun id) x.out
 
-  put_none : (r : V) (x : Operated) (o : Out) (s : Source W) (c : Target W) → Agree W o s c → Grown o x.out → Meets Q W Value r (here x.out) flows (Held o s c x.operand (length x.out.slots)) → Meets Q W U (then_run r (λ v. pure tt)) (here x.out) flows (Agrees x.out)
+  put_none : (r : V) (x : Operated) (o : Draft) (s : Source W) (c : Target W) → Agree W o s c → Grown o x.out → Meets Q W Value r (here x.out) flows (Held o s c x.operand (length x.out.slots)) → Meets Q W U (then_run r (λ v. pure tt)) (here x.out) flows (Agrees x.out)
   put_none r x o s c a g h =
       meets_source Q W Value U r (here x.out) flows (Held o s c x.operand (length x.out.slots)) (λ v. pure tt) flows (Agrees x.out) h (λ v s1 c1 q m. (c1, q, agree_after W o x.out s s1 c c1 a g m.2))
 
-  member_puts : (n : Named) (of : Operand) (id token : ℕ) (vo : Value) (r : V) (x : Operated) (o : Out) (s : Source W) (c : Target W) → Agree W o s c → Grown o x.out → ((d : Slots) → Keeps (length o.slots) c.locals d → operand d of ≡ vo)
+  member_puts : (n : Named) (of : Operand) (id token : ℕ) (vo : Value) (r : V) (x : Operated) (o : Draft) (s : Source W) (c : Target W) → Agree W o s c → Grown o x.out → ((d : Slots) → Keeps (length o.slots) c.locals d → operand d of ≡ vo)
       → Meets Q W Value r (here x.out) flows (Held o s c x.operand (length x.out.slots)) → Meets Q W U (then_run r (mean_put_member n vo)) (here (put_member P n of id token x)) flows (Agrees (put_member P n of id token x))
   member_puts named.Nothing of id token vo r x o s c a g keep h = put_none r x o s c a g h
   member_puts (named.Local p) of id token vo r x o s c a g keep h = put_none r x o s c a g h

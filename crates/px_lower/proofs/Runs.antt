@@ -8,7 +8,7 @@ use Rattle.px_code.specs.declared.node.Counter.{Counter}
 use Rattle.px_code.specs.declared.method.Tree.{Tree}
 use Rattle.px_code.specs.declared.method.Tree.TheVariants.{Do}
 use Rattle.px_code.specs.CodeRun.{Frame, There, word_run, tree_run, body_run}
-use Rattle.px_lower.specs.declared.out.Out.{Out}
+use Rattle.px_lower.specs.declared.draft.Draft.{Draft}
 use Rattle.px_lower.specs.Emit.{emitted}
 
 module _ (Q W : Type 0) where
@@ -65,6 +65,6 @@ module _ (Q W : Type 0) where
   one_run n word d = ends (word_run n word d)
 
   -- one more statement
-  pub emitted_run : (P : Checked) (word : Word) (token : ℕ) (k : Counter) (o : Out) (c : Frame W) → run (emitted P word token k o).trees c ≡ then_run (run o.trees c) (goes_on (word_run (length o.nodes + 1) word))
+  pub emitted_run : (P : Checked) (word : Word) (token : ℕ) (k : Counter) (o : Draft) (c : Frame W) → run (emitted P word token k o).trees c ≡ then_run (run o.trees c) (goes_on (word_run (length o.nodes + 1) word))
   emitted_run P word token k o c =
       run_append o.trees (Do (length o.nodes + 1) word ∷ []) c ∙ (λ i. then_run (run o.trees c) (goes_on (λ d. one_run (length o.nodes + 1) word d i)))

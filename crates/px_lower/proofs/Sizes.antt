@@ -19,7 +19,7 @@ use Rattle.px_mean.specs.Facts.{prefix_of, named_ty}
 use Rattle.px_mean.specs.Exec.{map_option}
 use Rattle.px_code.specs.declared.node.Node.{Node}
 use Rattle.px_code.specs.declared.word.Operand.TheVariants.{Slot, Literal}
-use Rattle.px_lower.specs.declared.out.Out.{Out}
+use Rattle.px_lower.specs.declared.draft.Draft.{Draft}
 use Rattle.px_lower.specs.declared.valued.Had.{Had}
 use Rattle.px_lower.specs.declared.valued.Had.TheVariants.{Held, Made}
 use Rattle.px_lower.specs.Emit.{Lasted, operated, operand_of, slotted, widened, fitted}
@@ -34,22 +34,22 @@ abbrev need : Had → ℕ
 need (Held a) = 0
 need (Made st t k) = 1
 
-abbrev count : Out → ℕ
+abbrev count : Draft → ℕ
 count o = length o.slots
 
 module _ (P : Checked) where
-  operated_count : (token : ℕ) (had : Had) (o : Out) → count (operated P token had o).out ≡ count o + need had
+  operated_count : (token : ℕ) (had : Had) (o : Draft) → count (operated P token had o).out ≡ count o + need had
   operated_count token (Held a) o = omega arith
   operated_count token (Made st t k) o = length-append o.slots (t ∷ [])
 
-  slotted_count : (n id token at : ℕ) (had : Had) (o : Out) → count (slotted P n id token at had o) ≡ count o
+  slotted_count : (n id token at : ℕ) (had : Had) (o : Draft) → count (slotted P n id token at had o) ≡ count o
   slotted_count n id token at (Held a) o = refl
   slotted_count n id token at (Made st t k) o = refl
 
   abbrev Few : ℕ → Lowers → Type 0
-  Few n l = (o : Out) → count (l o).out + need (l o).value.had ≤ count o + n
+  Few n l = (o : Draft) → count (l o).out + need (l o).value.had ≤ count o + n
 
-  operand_few : (n : ℕ) (l : Lowers) → Few n l → (o : Out) → count (operand_of P (l o)).out ≤ count o + n
+  operand_few : (n : ℕ) (l : Lowers) → Few n l → (o : Draft) → count (operand_of P (l o)).out ≤ count o + n
   operand_few n l f o = omega (arith, f o, operated_count (l o).value.token (l o).value.had (l o).out)
 
   -- ---- where a type is wanted: at most one more, and that only for an operand
@@ -60,7 +60,7 @@ module _ (P : Checked) where
   need_none : (had : Had) (n m : ℕ) → n + need had ≤ m → n ≤ m
   need_none had n m h = omega (arith, h)
 
-  wide_few : (before n id token : ℕ) (had : Had) (o : Out) → count o + need had ≤ before + n → FewAs before n (widened P id token had o)
+  wide_few : (before n id token : ℕ) (had : Had) (o : Draft) → count o + need had ≤ before + n → FewAs before n (widened P id token had o)
   wide_few before n id token (Held (Literal (Int i))) o h = (omega (arith, h), omega (arith, h))
   wide_few before n id token (Held (Literal (Long i))) o h = (omega (arith, h), omega (arith, h))
   wide_few before n id token (Held (Literal (Truth i))) o h = (omega (arith, h), omega (arith, h))
@@ -89,8 +89,8 @@ module _ (P : Checked) where
 
   -- ---- assignments
 
-  abbrev FewPut : ℕ → (Out → Out) → Type 0
-  FewPut n l = (o : Out) → count (l o) ≤ count o + n
+  abbrev FewPut : ℕ → (Draft → Draft) → Type 0
+  FewPut n l = (o : Draft) → count (l o) ≤ count o + n
 
   store_few : (m : Option ℕ) (id token before n : ℕ) (x : Lasted) → FewAs before n x → count (store P m id token x) ≤ before + n + 1
   store_few None id token before n x h = as_operand before n x h
@@ -155,16 +155,16 @@ module _ (P : Checked) where
   -- ---- statements: what they declare has its slots already
 
   abbrev FewStmt : ℕ → Steps → List Ty → Type 0
-  FewStmt n l ds = (o : Out) → count (l o) + length ds ≤ count o + n
+  FewStmt n l ds = (o : Draft) → count (l o) + length ds ≤ count o + n
 
   abbrev Items : Type 0
   Items = List (Triple ℕ Steps (List Ty) FewStmt)
 
-  all_few : (zs : Items) (o : Out) → count (lower_all (map (λ p. p.1) zs) o) + length (joined (map (λ p. p.2) zs)) ≤ count o + total (map (λ p. p.0) zs)
+  all_few : (zs : Items) (o : Draft) → count (lower_all (map (λ p. p.1) zs) o) + length (joined (map (λ p. p.2) zs)) ≤ count o + total (map (λ p. p.0) zs)
   all_few [] o = omega arith
   all_few (z ∷ zs) o = omega (arith, z.3 o, all_few zs (z.1 o), length-append z.2 (joined (map (λ p. p.2) zs)))
 
-  fit_to_few : (to : Ty) (x : Expr) (o : Out) → FewAs (count o) (expr_parts x) (fit_to P to x o)
+  fit_to_few : (to : Ty) (x : Expr) (o : Draft) → FewAs (count o) (expr_parts x) (fit_to P to x o)
   fit_to_few to x o = fit_few (type_of P x.id) to (count o) (expr_parts x) ((low P x).lower o) ((few x).lower o)
 
   stmt_steps : (gives : Option Ty) → StmtStepsMeet ℕ Steps (List Ty) parts_step (stmt_low P gives) declares_step FewStmt
@@ -182,7 +182,7 @@ module _ (P : Checked) where
 
   -- ---- methods
 
-  ended_count : (m : Method) (b : Bool) (o : Out) → count (ended P m b o) ≡ count o
+  ended_count : (m : Method) (b : Bool) (o : Draft) → count (ended P m b o) ≡ count o
   ended_count m true o = refl
   ended_count m false o = refl
 

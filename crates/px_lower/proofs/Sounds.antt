@@ -19,7 +19,7 @@ use Rattle.px_code.specs.declared.word.Word.TheVariants as w
 use Rattle.px_code.specs.declared.method.Tree.{Tree}
 use Rattle.px_code.specs.declared.method.Tree.TheVariants.{Do}
 use Rattle.px_code.specs.Machine.{is_return}
-use Rattle.px_lower.specs.declared.out.Out.{Out}
+use Rattle.px_lower.specs.declared.draft.Draft.{Draft}
 use Rattle.px_lower.specs.Emit.{Operated, operand_of, slot_of}
 use Rattle.px_lower.specs.Expressions.{low, type_of}
 use Rattle.px_lower.specs.Statements.{joined, declares_step, declares, last_completes, completes_step, completes, Steps, lower_all, block_low, fit_to, local_low, assign_low, return_by, return_low, stmt_low, low_stmt}
@@ -38,17 +38,17 @@ ends_next b (Do i y ∷ ts) n x = ends_next (is_return y) ts n x
 
 module _ (P : Checked) (base : ℕ) where
   -- what a statement that declares n locals leaves
-  pub record Done (o o' : Out) (n : ℕ) : Type 0 where
+  pub record Done (o o' : Draft) (n : ℕ) : Type 0 where
     pub inv : Inv P base o'
     pub local : o'.local ≡ o.local + n
     pub slots : length o.slots ≤ length o'.slots
 
-  done_moves : (o o' : Out) → Moves P base o o' → Done o o' 0
+  done_moves : (o o' : Draft) → Moves P base o o' → Done o o' 0
   done_moves o o' m = record { inv = m.inv; local = omega (arith, m.local); slots = m.slots }
 
   pub record FineStmt (b : Bool) (l : Steps) (ds : List Ty) : Type 0 where
-    pub done : (o : Out) → Inv P base o → o.local + length ds ≤ length o.slots → Done o (l o) (length ds)
-    pub ends : (o : Out) → b ≡ false → ends_in_return false (l o).trees ≡ true
+    pub done : (o : Draft) → Inv P base o → o.local + length ds ≤ length o.slots → Done o (l o) (length ds)
+    pub ends : (o : Draft) → b ≡ false → ends_in_return false (l o).trees ≡ true
 
   never : {A : Type 0} → true ≡ false → A
   never e = absurd (cc e)
@@ -64,7 +64,7 @@ module _ (P : Checked) (base : ℕ) where
   abbrev types_of : Items → List (List Ty)
   types_of zs = map (λ p. p.2) zs
 
-  all_done : (zs : Items) (o : Out) → Inv P base o → o.local + length (joined (types_of zs)) ≤ length o.slots → Done o (lower_all (codes_of zs) o) (length (joined (types_of zs)))
+  all_done : (zs : Items) (o : Draft) → Inv P base o → o.local + length (joined (types_of zs)) ≤ length o.slots → Done o (lower_all (codes_of zs) o) (length (joined (types_of zs)))
   all_done [] o h room = record { inv = h; local = omega arith; slots = omega arith }
   all_done (z ∷ zs) o h room =
       let sum = length-append z.2 (joined (types_of zs)) in
@@ -74,7 +74,7 @@ module _ (P : Checked) (base : ℕ) where
       let rest = all_done zs (z.1 o) one.inv rest_room in
       record { inv = rest.inv; local = omega (arith, rest.local, one.local, sum); slots = omega (arith, one.slots, rest.slots) }
 
-  all_end : (zs : Items) (b : Bool) (o : Out) → last_completes b (map (λ p. p.0) zs) ≡ false → (b ≡ false → ends_in_return false o.trees ≡ true) → ends_in_return false (lower_all (codes_of zs) o).trees ≡ true
+  all_end : (zs : Items) (b : Bool) (o : Draft) → last_completes b (map (λ p. p.0) zs) ≡ false → (b ≡ false → ends_in_return false o.trees ≡ true) → ends_in_return false (lower_all (codes_of zs) o).trees ≡ true
   all_end [] b o h k = k h
   all_end (z ∷ zs) b o h k = all_end zs z.0 (z.1 o) h (z.3.ends o)
 
@@ -117,7 +117,7 @@ module _ (P : Checked) (base : ℕ) where
     ends = λ o e. never e;
   }
 
-  return_fine_by : (x : Out → Operated) (id token : ℕ) → ((o : Out) → Inv P base o → FineOp P base o (x o)) → FineStmt false (λ o. return_by P id token (x o)) []
+  return_fine_by : (x : Draft → Operated) (id token : ℕ) → ((o : Draft) → Inv P base o → FineOp P base o (x o)) → FineStmt false (λ o. return_by P id token (x o)) []
   return_fine_by x id token f = record {
     done = λ o h room.
         let y = f o h in
@@ -159,11 +159,11 @@ module _ (P : Checked) where
     room = omega (arith, length-append (ty.Ref ∷ map param_ty m.params) (declares m.body), length-map m.params param_ty);
   }
 
-  ended_inv : (base : ℕ) (m : Method) (b : Bool) (o : Out) → Inv P base o → Inv P base (ended P m b o)
+  ended_inv : (base : ℕ) (m : Method) (b : Bool) (o : Draft) → Inv P base o → Inv P base (ended P m b o)
   ended_inv base m true o h = (emits P base (w.Return None) m.name.token (ReachedEnd o.method) o h tt).inv
   ended_inv base m false o h = h
 
-  ended_ends : (m : Method) (b : Bool) (o : Out) → (b ≡ false → ends_in_return false o.trees ≡ true) → ends_in_return false (ended P m b o).trees ≡ true
+  ended_ends : (m : Method) (b : Bool) (o : Draft) → (b ≡ false → ends_in_return false o.trees ≡ true) → ends_in_return false (ended P m b o).trees ≡ true
   ended_ends m true o k = ends_next false o.trees (length o.nodes + 1) (w.Return None)
   ended_ends m false o k = k refl
 

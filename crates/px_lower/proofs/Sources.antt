@@ -20,7 +20,7 @@ use Rattle.px_code.specs.declared.word.Operand.TheVariants.{Slot, Literal}
 use Rattle.px_code.specs.declared.node.Counter.TheVariants.{Begun}
 use Rattle.px_code.specs.Act.{operand}
 use Rattle.px_code.specs.CodeRun.{Frame as Target}
-use Rattle.px_lower.specs.declared.out.Out.{Out}
+use Rattle.px_lower.specs.declared.draft.Draft.{Draft}
 use Rattle.px_lower.specs.declared.valued.Had.TheVariants.{Held}
 use Rattle.px_lower.specs.declared.valued.Step.TheVariants as step
 use Rattle.px_lower.specs.Emit.{Operated, operand_of}
@@ -53,7 +53,7 @@ module _ (Q W : Type 0) (P : Checked) (c0 : Target W) where
   abbrev given : Source W → Option Value → V
   given s x = Gives (unwrap_or x Null) s
 
-  local_value : (m : Option ℕ) (p : ℕ) (o : Out) (s : Source W) (c : Target W) → Agree W o s c → slice_get o.scope p ≡ m → (given s (slice_get s.locals.slots p) ≡ given s (Some (operand c.locals (slot_or_null m)))) × IsBelow (length o.slots) (slot_or_null m)
+  local_value : (m : Option ℕ) (p : ℕ) (o : Draft) (s : Source W) (c : Target W) → Agree W o s c → slice_get o.scope p ≡ m → (given s (slice_get s.locals.slots p) ≡ given s (Some (operand c.locals (slot_or_null m)))) × IsBelow (length o.slots) (slot_or_null m)
   local_value None p o s c a q =
       (ap (given s) (ap (λ (vs : List Value). slice_get vs p) (sym a.scoped) ∙ get_map c.locals o.scope p ∙ ap (map_option c.locals) q), tt)
   local_value (Some x) p o s c a q =
@@ -75,7 +75,7 @@ module _ (Q W : Type 0) (P : Checked) (c0 : Target W) where
 
   -- ---- fields
 
-  null_of : (r : Here Q W Value) (x : Out → Operated) (id token : ℕ) → Operates Q W P c0 r x → Gains Q W P c0 (r >>= (λ v. pure Null)) (λ o. valued (Held (Literal Null)) id token (x o).out)
+  null_of : (r : Here Q W Value) (x : Draft → Operated) (id token : ℕ) → Operates Q W P c0 r x → Gains Q W P c0 (r >>= (λ v. pure Null)) (λ o. valued (Held (Literal Null)) id token (x o).out)
   null_of r x id token h = record {
     grown = h.grown;
     runs = λ o s c q a. meets_source Q W Value Value (r s) (ran Q W P c0 (x o).out) (goes_flow Q W P c0) (HeldAt Q W P c0 o s c (x o).operand (length (x o).out.slots)) (λ v. pure Null) (goes_flow Q W P c0) (HeldAt Q W P c0 o s c (Literal Null) (length (x o).out.slots)) (h.runs o s c q a) (λ v s1 c1 q1 m. (c1, q1, (refl, tt, m.2)));

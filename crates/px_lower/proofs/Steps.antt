@@ -21,7 +21,7 @@ use Rattle.px_code.specs.declared.node.Counter.{Counter}
 use Rattle.px_code.specs.declared.node.Counter.TheVariants.{Begun}
 use Rattle.px_code.specs.declared.method.Tree.{Tree}
 use Rattle.px_code.specs.declared.method.Tree.TheVariants.{Do}
-use Rattle.px_lower.specs.declared.out.Out.{Out}
+use Rattle.px_lower.specs.declared.draft.Draft.{Draft}
 use Rattle.px_lower.specs.declared.valued.Had.{Had}
 use Rattle.px_lower.specs.declared.valued.Had.TheVariants.{Held, Made}
 use Rattle.px_lower.specs.declared.valued.Step.{Step}
@@ -80,7 +80,7 @@ count_next a zero = let e : a + 0 ≡ a = omega arith in ap (λ k. k ∷ []) e
 count_next a (suc n) = let e : a + suc n ≡ a + 1 + n = omega arith in ap (λ k. a ∷ (count_up (a + 1) n ++ k ∷ [])) e ∙ ap (λ ks. a ∷ ks) (count_next (a + 1) n)
 
 module _ (P : Checked) (base : ℕ) where
-  pub record Inv (o : Out) : Type 0 where
+  pub record Inv (o : Draft) : Type 0 where
     pub numbers : map tree_node o.trees ≡ count_up (base + 1) (length o.trees)
     pub count : length o.nodes ≡ base + length o.trees
     pub below : AllBelow (length o.slots) o.trees
@@ -88,18 +88,18 @@ module _ (P : Checked) (base : ℕ) where
     pub room : o.local ≤ length o.slots
 
   -- what an expression or an assignment leaves
-  pub record Moves (o o' : Out) : Type 0 where
+  pub record Moves (o o' : Draft) : Type 0 where
     pub inv : Inv o'
     pub local : o'.local ≡ o.local
     pub slots : length o.slots ≤ length o'.slots
 
-  pub moves_none : (o : Out) → Inv o → Moves o o
+  pub moves_none : (o : Draft) → Inv o → Moves o o
   moves_none o h = record { inv = h; local = refl; slots = omega arith }
 
-  pub moves_then : (a b c : Out) → Moves a b → Moves b c → Moves a c
+  pub moves_then : (a b c : Draft) → Moves a b → Moves b c → Moves a c
   moves_then a b c x y = record { inv = y.inv; local = y.local ∙ x.local; slots = omega (arith, x.slots, y.slots) }
 
-  pub emits : (word : Word) (token : ℕ) (k : Counter) (o : Out) → Inv o → NamesBelow (length o.slots) word → Moves o (emitted P word token k o)
+  pub emits : (word : Word) (token : ℕ) (k : Counter) (o : Draft) → Inv o → NamesBelow (length o.slots) word → Moves o (emitted P word token k o)
   emits word token k o h b =
       let n = length o.trees in
       let t = Do (length o.nodes + 1) word in
@@ -117,7 +117,7 @@ module _ (P : Checked) (base : ℕ) where
         slots = omega arith;
       }
 
-  temps : (t : Ty) (o : Out) → Inv o → Moves o (with_temp t o)
+  temps : (t : Ty) (o : Draft) → Inv o → Moves o (with_temp t o)
   temps t o h =
       let more : length o.slots ≤ length (o.slots ++ t ∷ []) = omega (arith, length-append o.slots (t ∷ [])) in
       record {
@@ -128,18 +128,18 @@ module _ (P : Checked) (base : ℕ) where
 
   -- ---- values
 
-  pub record FineAt (o : Out) (x : Lasted) : Type 0 where
+  pub record FineAt (o : Draft) (x : Lasted) : Type 0 where
     pub moves : Moves o x.out
     pub had : HadBelow (length x.out.slots) x.value.had
 
-  pub record FineOp (o : Out) (x : Operated) : Type 0 where
+  pub record FineOp (o : Draft) (x : Operated) : Type 0 where
     pub moves : Moves o x.out
     pub operand : IsBelow (length x.out.slots) x.operand
 
   abbrev pub Fine : Lowers → Type 0
-  Fine l = (o : Out) → Inv o → FineAt o (l o)
+  Fine l = (o : Draft) → Inv o → FineAt o (l o)
 
-  had_operand : (token : ℕ) (had : Had) (o : Out) → Inv o → HadBelow (length o.slots) had → FineOp o (operated P token had o)
+  had_operand : (token : ℕ) (had : Had) (o : Draft) → Inv o → HadBelow (length o.slots) had → FineOp o (operated P token had o)
   had_operand token (Held a) o h b = record { moves = moves_none o h; operand = b }
   had_operand token (Made st t k) o h b =
       let n = length o.slots in
@@ -149,24 +149,24 @@ module _ (P : Checked) (base : ℕ) where
       let T = temps t o h in
       record { moves = moves_then o (with_temp t o) _ T (emits (writes st n) token k (with_temp t o) T.inv (writes_below st m n here (step_more st n m more b))); operand = here }
 
-  pub operand_fine : (o : Out) (x : Lasted) → FineAt o x → FineOp o (operand_of P x)
+  pub operand_fine : (o : Draft) (x : Lasted) → FineAt o x → FineOp o (operand_of P x)
   operand_fine o x h =
       let y = had_operand x.value.token x.value.had x.out h.moves.inv h.had in
       record { moves = moves_then o x.out (operand_of P x).out h.moves y.moves; operand = y.operand }
 
-  had_slot : (n id token at : ℕ) (had : Had) (o : Out) → Inv o → HadBelow (length o.slots) had → n < length o.slots → Moves o (slotted P n id token at had o)
+  had_slot : (n id token at : ℕ) (had : Had) (o : Draft) → Inv o → HadBelow (length o.slots) had → n < length o.slots → Moves o (slotted P n id token at had o)
   had_slot n id token at (Held a) o h b l = emits (w.Set n a) token (Begun id) o h (l, b)
   had_slot n id token at (Made st t k) o h b l = emits (writes st n) at k o h (writes_below st (length o.slots) n l b)
 
-  pub slot_fine : (n id token : ℕ) (o : Out) (x : Lasted) → FineAt o x → n < length x.out.slots → Moves o (slot_of P n id token x)
+  pub slot_fine : (n id token : ℕ) (o : Draft) (x : Lasted) → FineAt o x → n < length x.out.slots → Moves o (slot_of P n id token x)
   slot_fine n id token o x h l = moves_then o x.out (slot_of P n id token x) h.moves (had_slot n id token x.value.token x.value.had x.out h.moves.inv h.had l)
 
   -- ---- an int where a long is wanted
 
-  wide_by : (id token : ℕ) (o : Out) (x : Operated) → FineOp o x → FineAt o (widened_operand id token x)
+  wide_by : (id token : ℕ) (o : Draft) (x : Operated) → FineOp o x → FineAt o (widened_operand id token x)
   wide_by id token o x h = record { moves = h.moves; had = (h.operand, tt) }
 
-  wide_fine : (id token : ℕ) (had : Had) (o : Out) → Inv o → HadBelow (length o.slots) had → FineAt o (widened P id token had o)
+  wide_fine : (id token : ℕ) (had : Had) (o : Draft) → Inv o → HadBelow (length o.slots) had → FineAt o (widened P id token had o)
   wide_fine id token (Held (Literal (Int n))) o h b = record { moves = moves_none o h; had = tt }
   wide_fine id token (Held (Literal (Long n))) o h b = wide_by id token o _ (had_operand token (Held (Literal (Long n))) o h b)
   wide_fine id token (Held (Literal (Truth n))) o h b = wide_by id token o _ (had_operand token (Held (Literal (Truth n))) o h b)
@@ -176,12 +176,12 @@ module _ (P : Checked) (base : ℕ) where
   wide_fine id token (Held (Slot n)) o h b = wide_by id token o _ (had_operand token (Held (Slot n)) o h b)
   wide_fine id token (Made st t k) o h b = wide_by id token o _ (had_operand token (Made st t k) o h b)
 
-  widen_fine : (o : Out) (x : Lasted) → FineAt o x → FineAt o (widened P x.value.id x.value.token x.value.had x.out)
+  widen_fine : (o : Draft) (x : Lasted) → FineAt o x → FineAt o (widened P x.value.id x.value.token x.value.had x.out)
   widen_fine o x h =
       let y = wide_fine x.value.id x.value.token x.value.had x.out h.moves.inv h.had in
       record { moves = moves_then o x.out _ h.moves y.moves; had = y.had }
 
-  pub fit_fine : (from to : Ty) (o : Out) (x : Lasted) → FineAt o x → FineAt o (fitted P from to x)
+  pub fit_fine : (from to : Ty) (o : Draft) (x : Lasted) → FineAt o x → FineAt o (fitted P from to x)
   fit_fine ty.Int ty.Long o x h = widen_fine o x h
   fit_fine ty.Int ty.Int o x h = h
   fit_fine ty.Int ty.Bool o x h = h
@@ -194,20 +194,20 @@ module _ (P : Checked) (base : ℕ) where
 
   -- ---- assignments
 
-  abbrev pub FinePut : (Out → Out) → Type 0
-  FinePut l = (o : Out) → Inv o → Moves o (l o)
+  abbrev pub FinePut : (Draft → Draft) → Type 0
+  FinePut l = (o : Draft) → Inv o → Moves o (l o)
 
-  this_below : (o : Out) → Inv o → 0 < length o.slots
+  this_below : (o : Draft) → Inv o → 0 < length o.slots
   this_below o h = omega (arith, rises_le 1 o.scope o.local h.rises, h.room)
 
-  scope_below : (p x : ℕ) (o : Out) → Inv o → slice_get o.scope p ≡ Some x → x < length o.slots
+  scope_below : (p x : ℕ) (o : Draft) → Inv o → slice_get o.scope p ≡ Some x → x < length o.slots
   scope_below p x o h q = omega (arith, (rises_get 1 o.scope o.local p x h.rises q).1, h.room)
 
-  store_fine : (m : Option ℕ) (p id token : ℕ) (o : Out) (x : Lasted) → FineAt o x → slice_get x.out.scope p ≡ m → Moves o (store P m id token x)
+  store_fine : (m : Option ℕ) (p id token : ℕ) (o : Draft) (x : Lasted) → FineAt o x → slice_get x.out.scope p ≡ m → Moves o (store P m id token x)
   store_fine None p id token o x h q = (operand_fine o x h).moves
   store_fine (Some n) p id token o x h q = slot_fine n id token o x h (scope_below p n x.out h.moves.inv q)
 
-  put_by_fine : (of : Operand) (class place id token : ℕ) (o : Out) (x : Operated) → FineOp o x → IsBelow (length x.out.slots) of → Moves o (put_by P of class place id token x)
+  put_by_fine : (of : Operand) (class place id token : ℕ) (o : Draft) (x : Operated) → FineOp o x → IsBelow (length x.out.slots) of → Moves o (put_by P of class place id token x)
   put_by_fine of class place id token o x h b = moves_then o x.out _ h.moves (emits (w.Put of class place x.operand) token (Begun id) x.out h.moves.inv (b, h.operand))
 
   name_put_fine : (n : Named) (to from : Ty) (r : Lowers) (id token : ℕ) → Fine r → FinePut (put_name P n to from r id token)
@@ -217,7 +217,7 @@ module _ (P : Checked) (base : ℕ) where
       let x = operand_fine o (fitted P from to (r o)) (fit_fine from to o (r o) (f o h)) in
       put_by_fine (Slot 0) class place id token o _ x (this_below _ x.moves.inv)
 
-  member_put_fine : (n : Named) (of : Operand) (id token : ℕ) (o : Out) (x : Operated) → FineOp o x → IsBelow (length x.out.slots) of → Moves o (put_member P n of id token x)
+  member_put_fine : (n : Named) (of : Operand) (id token : ℕ) (o : Draft) (x : Operated) → FineOp o x → IsBelow (length x.out.slots) of → Moves o (put_member P n of id token x)
   member_put_fine named.Nothing of id token o x h b = h.moves
   member_put_fine (named.Local p) of id token o x h b = h.moves
   member_put_fine (named.Field class place) of id token o x h b = put_by_fine of class place id token o x h b

@@ -16,7 +16,7 @@ use Rattle.px_code.specs.declared.word.Word.TheVariants as w
 use Rattle.px_code.specs.declared.node.Counter.TheVariants.{Begun}
 use Rattle.px_code.specs.Act.{Slots}
 use Rattle.px_code.specs.CodeRun.{Frame as Target, with_slot, word_run}
-use Rattle.px_lower.specs.declared.out.Out.{Out}
+use Rattle.px_lower.specs.declared.draft.Draft.{Draft}
 use Rattle.px_lower.specs.Emit.{Operated, emitted, operand_of, slot_of}
 use Rattle.px_lower.specs.Expressions.{low, type_of}
 use Rattle.px_lower.specs.Statements.{joined, declares_step, declares, Steps, lower_all, closed, block_low, fit_to, in_scope, local_low, return_by, return_low, stmt_low, low_stmt}
@@ -30,19 +30,19 @@ use Rattle.px_lower.proofs.Sources.{same}
 use Rattle.px_lower.proofs.Related.{Triple, StmtStepsMeet, related_stmt}
 
 -- what a statement that declares n locals adds
-pub record Adds (o o' : Out) (n : ℕ) : Type 0 where
+pub record Adds (o o' : Draft) (n : ℕ) : Type 0 where
   pub more : List Tree
   pub trees : o'.trees ≡ o.trees ++ more
   pub local : o'.local ≡ o.local + n
   pub slots : length o.slots ≤ length o'.slots
 
-adds_none : (o : Out) → Adds o o 0
+adds_none : (o : Draft) → Adds o o 0
 adds_none o = record { more = []; trees = sym (append-nil o.trees); local = omega arith; slots = omega arith }
 
-adds_grown : (o o' : Out) → Grown o o' → Adds o o' 0
+adds_grown : (o o' : Draft) → Grown o o' → Adds o o' 0
 adds_grown o o' g = record { more = g.more; trees = g.trees; local = omega (arith, g.local); slots = g.slots }
 
-adds_then : (a b c : Out) (xs ys : List Ty) → Adds a b (length xs) → Adds b c (length ys) → Adds a c (length (xs ++ ys))
+adds_then : (a b c : Draft) (xs ys : List Ty) → Adds a b (length xs) → Adds b c (length ys) → Adds a c (length (xs ++ ys))
 adds_then a b c xs ys x y = record {
   more = x.more ++ y.more;
   trees = y.trees ∙ ap (λ ts. ts ++ y.more) x.trees ∙ append_assoc a.trees x.more y.more;
@@ -57,7 +57,7 @@ module _ (Q W : Type 0) (P : Checked) (c0 : Target W) where
   abbrev means : Expr → Meant Q W
   means = meant (facts_in P.facts)
 
-  abbrev here : Out → Ran Q W
+  abbrev here : Draft → Ran Q W
   here o = run Q W o.trees c0
 
   abbrev flows : Value → Fl
@@ -67,17 +67,17 @@ module _ (Q W : Type 0) (P : Checked) (c0 : Target W) where
   same_flow f = f
 
   -- behind a statement that goes on the source and the code agree
-  abbrev pub After : Out → Fl → Source W → Target W → Type 0
+  abbrev pub After : Draft → Fl → Source W → Target W → Type 0
   After o Goes s c = Agree W o s c
   After o (Returns v) s c = Left W s c
 
   pub record Does (r : Here Q W Fl) (l : Steps) (ds : List Ty) : Type 0 where
-    pub adds : (o : Out) → Adds o (l o) (length ds)
-    pub runs : (o : Out) (s : Source W) (c : Target W) → here o ≡ Gives Goes c → Agree W o s c → o.local + length ds ≤ length o.slots → Meets Q W Fl (r s) (here (l o)) same_flow (After (l o))
+    pub adds : (o : Draft) → Adds o (l o) (length ds)
+    pub runs : (o : Draft) (s : Source W) (c : Target W) → here o ≡ Gives Goes c → Agree W o s c → o.local + length ds ≤ length o.slots → Meets Q W Fl (r s) (here (l o)) same_flow (After (l o))
 
   -- ---- blocks
 
-  adds_more : (o o' : Out) (n : ℕ) → Adds o o' n → More Q W (here o) (here o')
+  adds_more : (o o' : Draft) (n : ℕ) → Adds o o' n → More Q W (here o) (here o')
   adds_more o o' n a = more_trees Q W o.trees a.more o'.trees c0 a.trees
 
   abbrev Items : Type 0
@@ -92,7 +92,7 @@ module _ (Q W : Type 0) (P : Checked) (c0 : Target W) where
   abbrev types_of : Items → List (List Ty)
   types_of zs = map (λ p. p.2) zs
 
-  goes_after : (rest : Here Q W Fl) (l : Steps) (ds : List Ty) → Does rest l ds → (o : Out) → o.local + length ds ≤ length o.slots → (f : Fl) (s : Source W) (c : Target W) → here o ≡ Gives f c → After o f s c → Meets Q W Fl (goes_on rest f s) (here (l o)) same_flow (After (l o))
+  goes_after : (rest : Here Q W Fl) (l : Steps) (ds : List Ty) → Does rest l ds → (o : Draft) → o.local + length ds ≤ length o.slots → (f : Fl) (s : Source W) (c : Target W) → here o ≡ Gives f c → After o f s c → Meets Q W Fl (goes_on rest f s) (here (l o)) same_flow (After (l o))
   goes_after rest l ds h o room Goes s c q a = h.runs o s c q a room
   goes_after rest l ds h o room (Returns v) s c q a =
       let more = adds_more o (l o) (length ds) (h.adds o) in
@@ -114,7 +114,7 @@ module _ (Q W : Type 0) (P : Checked) (c0 : Target W) where
             (z.3.runs o s c q a here_room) (λ f s1 c1 q1 a1. goes_after (in_order (runs_of zs)) (lower_all (codes_of zs)) (joined (types_of zs)) rest o1 rest_room f s1 c1 q1 a1);
       }
 
-  closed_after : (n m : ℕ) (o : Out) (r : Outcome Q (Source W) Fl) → n ≡ m → Meets Q W Fl r (here o) same_flow (After o) → Meets Q W Fl (leaves m r) (here (closed n o)) same_flow (After (closed n o))
+  closed_after : (n m : ℕ) (o : Draft) (r : Outcome Q (Source W) Fl) → n ≡ m → Meets Q W Fl r (here o) same_flow (After o) → Meets Q W Fl (leaves m r) (here (closed n o)) same_flow (After (closed n o))
   closed_after n m o (Gives Goes s) e h = (
     h.0,
     h.1,
@@ -147,7 +147,7 @@ module _ (Q W : Type 0) (P : Checked) (c0 : Target W) where
 
   -- ---- a declaration
 
-  agree_declared : (o o' : Out) (s s1 : Source W) (c c1 : Target W) (v : Value) → Agree W o s c → Grown o o' → o.local + 1 ≤ length o.slots → MadeAt Q W P c0 o s c o.local v s1 c1 → Agree W (in_scope o.local o') (with_slots s1 (s1.locals.slots ++ v ∷ [])) c1
+  agree_declared : (o o' : Draft) (s s1 : Source W) (c c1 : Target W) (v : Value) → Agree W o s c → Grown o o' → o.local + 1 ≤ length o.slots → MadeAt Q W P c0 o s c o.local v s1 c1 → Agree W (in_scope o.local o') (with_slots s1 (s1.locals.slots ++ v ∷ [])) c1
   agree_declared o o' s s1 c c1 v a g room m =
       let n = o.local in
       let one = rises_le 1 o.scope n a.rises in
@@ -190,7 +190,7 @@ module _ (Q W : Type 0) (P : Checked) (c0 : Target W) where
 
   -- ---- a return
 
-  value_returns : (r : Here Q W Value) (x : Out → Operated) (id token : ℕ) → Operates Q W P c0 r x → Does (r >>= (λ v. pure (Returns (Some v)))) (λ o. return_by P id token (x o)) []
+  value_returns : (r : Here Q W Value) (x : Draft → Operated) (id token : ℕ) → Operates Q W P c0 r x → Does (r >>= (λ v. pure (Returns (Some v)))) (λ o. return_by P id token (x o)) []
   value_returns r x id token h = record {
     adds = λ o. adds_grown o (return_by P id token (x o)) (grown_then o (x o).out (return_by P id token (x o)) (h.grown o) (grown_emitted P (w.Return (Some (x o).operand)) token (Begun id) (x o).out));
     runs = λ o s c q a room.

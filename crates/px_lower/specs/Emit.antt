@@ -15,7 +15,7 @@ use Rattle.px_code.specs.declared.node.Node.{Node}
 use Rattle.px_code.specs.declared.node.NodeKind.TheVariants as kind
 use Rattle.px_code.specs.declared.node.Counter.{Counter}
 use Rattle.px_code.specs.declared.node.Counter.TheVariants.{Begun, Completed}
-use Rattle.px_lower.specs.declared.out.Out.{Out}
+use Rattle.px_lower.specs.declared.draft.Draft.{Draft}
 use Rattle.px_lower.specs.declared.valued.Step.{Step}
 use Rattle.px_lower.specs.declared.valued.Step.TheVariants as step
 use Rattle.px_lower.specs.declared.valued.Had.{Had}
@@ -37,18 +37,18 @@ abbrev pub node_at : Checked → ℕ → ℕ → Counter → Node
 node_at P method token counter = record { kind = kind.Normal; line = line_of P token; method = Some method; counter = Some counter }
 
 -- one more statement, and its node
-abbrev pub emitted : Checked → Word → ℕ → Counter → Out → Out
+abbrev pub emitted : Checked → Word → ℕ → Counter → Draft → Draft
 emitted P word token counter o = record o { trees = o.trees ++ Do (length o.nodes + 1) word ∷ []; nodes = o.nodes ++ node_at P o.method token counter ∷ [] }
 
 -- ---- values
 
 -- an expression that is lowered: its value, and what is lowered so far
 pub record Lasted : Type 0 where
-  pub out : Out
+  pub out : Draft
   pub value : Valued
 
 pub record Operated : Type 0 where
-  pub out : Out
+  pub out : Draft
   pub operand : Operand
 
 -- the statement that writes this slot
@@ -57,11 +57,11 @@ writes (step.Op o a b) to = w.Op o to a b
 writes (step.Get a class field) to = w.Get to a class field
 
 -- one more temporary
-abbrev pub with_temp : Ty → Out → Out
+abbrev pub with_temp : Ty → Draft → Draft
 with_temp t o = record o { slots = o.slots ++ t ∷ [] }
 
 -- the value as an operand: a statement writes it into a new temporary
-abbrev pub operated : Checked → ℕ → Had → Out → Operated
+abbrev pub operated : Checked → ℕ → Had → Draft → Operated
 operated P token (Held a) o = record { out = o; operand = a }
 operated P token (Made s t counter) o = record { out = emitted P (writes s (length o.slots)) token counter (with_temp t o); operand = Slot (length o.slots) }
 
@@ -69,11 +69,11 @@ abbrev pub operand_of : Checked → Lasted → Operated
 operand_of P x = operated P x.value.token x.value.had x.out
 
 -- The value in this slot: the last statement writes it, or one of the statement of the source that has this number and this first token.
-abbrev pub slotted : Checked → ℕ → (id token : ℕ) → ℕ → Had → Out → Out
+abbrev pub slotted : Checked → ℕ → (id token : ℕ) → ℕ → Had → Draft → Draft
 slotted P slot id token at (Held a) o = emitted P (w.Set slot a) token (Begun id) o
 slotted P slot id token at (Made s t counter) o = emitted P (writes s slot) at counter o
 
-abbrev pub slot_of : Checked → ℕ → (id token : ℕ) → Lasted → Out
+abbrev pub slot_of : Checked → ℕ → (id token : ℕ) → Lasted → Draft
 slot_of P slot id token x = slotted P slot id token x.value.token x.value.had x.out
 
 -- ---- an int where a long is wanted
@@ -82,7 +82,7 @@ abbrev pub widened_operand : (id token : ℕ) → Operated → Lasted
 widened_operand id token a = record { out = a.out; value = record { id = id; token = token; had = Made (step.Op op.Widen a.operand None) ty.Long (Completed id) } }
 
 -- a literal is widened here, and any other value by a statement
-abbrev pub widened : Checked → (id token : ℕ) → Had → Out → Lasted
+abbrev pub widened : Checked → (id token : ℕ) → Had → Draft → Lasted
 widened P id token (Held (Literal (value.Int n))) o = record { out = o; value = record { id = id; token = token; had = Held (Literal (value.Long n)) } }
 widened P id token had o = widened_operand id token (operated P token had o)
 

@@ -20,7 +20,7 @@ use Rattle.px_code.specs.declared.word.Operand.{Operand}
 use Rattle.px_code.specs.declared.word.Operand.TheVariants.{Slot, Literal}
 use Rattle.px_code.specs.declared.word.Word.TheVariants as w
 use Rattle.px_code.specs.declared.node.Counter.TheVariants.{Begun}
-use Rattle.px_lower.specs.declared.out.Out.{Out}
+use Rattle.px_lower.specs.declared.draft.Draft.{Draft}
 use Rattle.px_lower.specs.declared.valued.Step.{Step}
 use Rattle.px_lower.specs.declared.valued.Step.TheVariants as step
 use Rattle.px_lower.specs.declared.valued.Had.{Had}
@@ -34,16 +34,16 @@ abbrev pub named_of : Checked → ℕ → Named
 named_of P id = (facts_in P.facts).named id
 
 abbrev pub Lowers : Type 0
-Lowers = Out → Lasted
+Lowers = Draft → Lasted
 
 -- What an expression is lowered to: the value of a bare literal, its own value, and the assignment to it of a value of a type, in the
 -- statement of this number and this first token.
 pub record Low : Type 0 where
   pub number : Option Value
   pub lower : Lowers
-  pub put : Ty → Lowers → (id token : ℕ) → Out → Out
+  pub put : Ty → Lowers → (id token : ℕ) → Draft → Draft
 
-abbrev pub no_put : Ty → Lowers → (id token : ℕ) → Out → Out
+abbrev pub no_put : Ty → Lowers → (id token : ℕ) → Draft → Draft
 no_put from r id token o = o
 
 abbrev pub low_value : Lowers → Low
@@ -51,7 +51,7 @@ low_value l = record { number = None; lower = l; put = no_put }
 
 -- ---- values
 
-abbrev pub valued : Had → (id token : ℕ) → Out → Lasted
+abbrev pub valued : Had → (id token : ℕ) → Draft → Lasted
 valued h id token o = record { out = o; value = record { id = id; token = token; had = h } }
 
 abbrev pub held : Operand → (id token : ℕ) → Lowers
@@ -105,24 +105,24 @@ prefix_low P None (Some f) l id token o = let a = operand_of P (l o) in valued (
 
 -- ---- assignments
 
-abbrev pub store : Checked → Option ℕ → (id token : ℕ) → Lasted → Out
+abbrev pub store : Checked → Option ℕ → (id token : ℕ) → Lasted → Draft
 store P None id token x = (operand_of P x).out
 store P (Some slot) id token x = slot_of P slot id token x
 
-abbrev pub put_by : Checked → Operand → (class place : ℕ) → (id token : ℕ) → Operated → Out
+abbrev pub put_by : Checked → Operand → (class place : ℕ) → (id token : ℕ) → Operated → Draft
 put_by P of class place id token x = emitted P (w.Put of class place x.operand) token (Begun id) x.out
 
-abbrev pub put_name : Checked → Named → Ty → Ty → Lowers → (id token : ℕ) → Out → Out
+abbrev pub put_name : Checked → Named → Ty → Ty → Lowers → (id token : ℕ) → Draft → Draft
 put_name P named.Nothing to from r id token o = o
 put_name P (named.Local place) to from r id token o = let x = fitted P from to (r o) in store P (slice_get x.out.scope place) id token x
 put_name P (named.Field class place) to from r id token o = put_by P (Slot 0) class place id token (operand_of P (fitted P from to (r o)))
 
-abbrev pub put_member : Checked → Named → Operand → (id token : ℕ) → Operated → Out
+abbrev pub put_member : Checked → Named → Operand → (id token : ℕ) → Operated → Draft
 put_member P (named.Field class place) of id token x = put_by P of class place id token x
 put_member P _ of id token x = x.out
 
 -- the object first, then the value, then the write
-abbrev pub put_field : Checked → Named → Ty → Lowers → Ty → Lowers → (id token : ℕ) → Out → Out
+abbrev pub put_field : Checked → Named → Ty → Lowers → Ty → Lowers → (id token : ℕ) → Draft → Draft
 put_field P n to of from r id token o =
     let a = operand_of P (of o) in
     put_member P n a.operand id token (operand_of P (fitted P from to (r a.out)))

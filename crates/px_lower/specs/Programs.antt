@@ -21,7 +21,7 @@ use Rattle.px_code.specs.declared.word.Word.TheVariants as w
 use Rattle.px_code.specs.declared.node.Node.{Node}
 use Rattle.px_code.specs.declared.node.NodeKind.TheVariants as kind
 use Rattle.px_code.specs.declared.node.Counter.TheVariants.{Entered, ReachedEnd}
-use Rattle.px_lower.specs.declared.out.Out.{Out}
+use Rattle.px_lower.specs.declared.draft.Draft.{Draft}
 use Rattle.px_lower.specs.Emit.{line_of, emitted}
 use Rattle.px_lower.specs.Statements.{declares, completes, low_stmt}
 
@@ -39,7 +39,7 @@ abbrev pub method_node : Checked → ℕ → Method → Node
 method_node P number m = record { kind = kind.Method; line = line_of P m.name.token; method = Some number; counter = Some (Entered number) }
 
 -- before the body
-abbrev pub begun : Checked → ℕ → Method → List Node → Out
+abbrev pub begun : Checked → ℕ → Method → List Node → Draft
 begun P number m nodes = record {
   method = number;
   trees = [];
@@ -50,11 +50,11 @@ begun P number m nodes = record {
 }
 
 -- a body that can reach its end returns there
-abbrev pub ended : Checked → Method → Bool → Out → Out
+abbrev pub ended : Checked → Method → Bool → Draft → Draft
 ended P m true o = emitted P (w.Return None) m.name.token (ReachedEnd o.method) o
 ended P m false o = o
 
-abbrev pub lowered_body : Checked → ℕ → Method → List Node → Out
+abbrev pub lowered_body : Checked → ℕ → Method → List Node → Draft
 lowered_body P number m nodes = ended P m (completes m.body) (low_stmt P (map_option named_ty m.gives) m.body (begun P number m nodes))
 
 abbrev pub is_public : Access → Bool
@@ -62,7 +62,7 @@ is_public Public = true
 is_public _ = false
 
 -- the method, of which the node comes behind so many others
-abbrev pub method_of : Method → ℕ → Out → CodeMethod
+abbrev pub method_of : Method → ℕ → Draft → CodeMethod
 method_of m before o = record {
   class = 0;
   name = m.name.bytes;

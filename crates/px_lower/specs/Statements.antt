@@ -9,7 +9,7 @@ use Rattle.px_types.specs.declared.checked.Checked.{Checked}
 use Rattle.px_mean.specs.Facts.{named_ty}
 use Rattle.px_code.specs.declared.word.Word.TheVariants as w
 use Rattle.px_code.specs.declared.node.Counter.TheVariants.{Begun}
-use Rattle.px_lower.specs.declared.out.Out.{Out}
+use Rattle.px_lower.specs.declared.draft.Draft.{Draft}
 use Rattle.px_lower.specs.Emit.{Lasted, Operated, emitted, operand_of, slot_of, fitted}
 use Rattle.px_lower.specs.Expressions.{low, type_of}
 
@@ -48,7 +48,7 @@ completes = fold-Stmt Bool Bool completes_step whole
 -- ---- one level of a statement, by its number and its first token
 
 abbrev pub Steps : Type 0
-Steps = Out → Out
+Steps = Draft → Draft
 
 -- one after the other
 abbrev pub lower_all : List Steps → Steps
@@ -63,7 +63,7 @@ abbrev pub block_low : List Steps → Steps
 block_low items o = closed (length o.scope) (lower_all items o)
 
 -- an expression, where a value of this type is wanted
-abbrev pub fit_to : Checked → Ty → Expr → Out → Lasted
+abbrev pub fit_to : Checked → Ty → Expr → Draft → Lasted
 fit_to P to x o = fitted P (type_of P x.id) to ((low P x).lower o)
 
 -- the local in this slot is in scope
@@ -76,7 +76,7 @@ local_low P to x id token o = in_scope o.local (slot_of P o.local id token (fit_
 abbrev pub assign_low : Checked → Expr → Expr → (id token : ℕ) → Steps
 assign_low P p x id token o = (low P p).put (type_of P x.id) (low P x).lower id token o
 
-abbrev pub return_by : Checked → (id token : ℕ) → Operated → Out
+abbrev pub return_by : Checked → (id token : ℕ) → Operated → Draft
 return_by P id token a = emitted P (w.Return (Some a.operand)) token (Begun id) a.out
 
 abbrev pub return_low : Checked → Option Ty → Option Expr → (id token : ℕ) → Steps

@@ -4,15 +4,15 @@ ghost use Rattle.px_lower.specs.Emit.{operand_of};
 ghost use Rattle.px_lower.specs.Expressions.{low, type_of, named_of, store, put_by, put_name, put_member, put_field};
 ghost use Rattle.px_lower.specs.Statements.{assign_low};
 
+use crate::draft::Draft;
 use crate::facts::{named_at, type_at};
-use crate::out::Out;
 use crate::valued::Valued;
 use px_code::{Counter, Operand, Word};
 use px_lex::tree::{Expr, ExprForm, Stmt};
 use px_types::{Checked, Named};
 use std::alloc::AllocError;
 
-impl Out {
+impl Draft {
     // Writes the variable of this place.
     fn store(
         &mut self,

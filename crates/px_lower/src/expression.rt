@@ -5,9 +5,9 @@ ghost use Rattle.px_lower.specs.Emit.{operand_of};
 ghost use Rattle.px_lower.specs.Expressions.{low, type_of, named_of, name_had, member_had, literal_behind};
 ghost use Rattle.px_lower.specs.Statements.{fit_to};
 
+use crate::draft::Draft;
 use crate::facts::{named_at, type_at};
 use crate::operators::{literal, negative, op_of, prefix_of};
-use crate::out::Out;
 use crate::valued::{Had, Step, Valued};
 use px_code::{Counter, Operand};
 use px_lex::tree::{Expr, ExprForm, Sign};
@@ -66,7 +66,7 @@ fn valued(e: &Expr, had: Had) -> Valued
     }
 }
 
-impl Out {
+impl Draft {
     // A bare name.
     fn name(&self, checked: &Checked, id: u32) -> Had
         ensures { result ≡ name_had checked.now (named_of checked.now id) id self.now.scope }

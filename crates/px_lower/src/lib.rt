@@ -2,13 +2,13 @@
 #![tactic(auto)]
 
 mod assign;
+mod draft;
 mod expression;
 mod facts;
 pub mod law;
 mod locals;
 mod method;
 mod operators;
-mod out;
 mod program;
 mod scope;
 mod statement;

@@ -4,9 +4,9 @@ ghost use Rattle.px_mean.specs.Facts.{named_ty};
 ghost use Rattle.px_mean.specs.Exec.{map_option};
 ghost use Rattle.px_lower.specs.Programs.{param_ty, places, method_node, begun, ended, lowered_body, is_public as is_public_access, method_of};
 
+use crate::draft::{Draft, line_at, next_node};
 use crate::facts::type_named;
 use crate::locals::{completes, declare};
-use crate::out::{Out, line_at, next_node};
 use crate::scope::Scope;
 use px_code::{Counter, Method, Node, NodeKind, Word};
 use px_lex::tree::{self, Access, Param, TypeName};
@@ -61,7 +61,7 @@ fn begin(
     number: u16,
     m: &tree::Method,
     nodes: Items<Node>,
-) -> Result<Out, AllocError>
+) -> Result<Draft, AllocError>
     ensures { IfOk result (λ out. out ≡ begun checked.now number m.now nodes) }
 {
     let mut nodes = nodes;
@@ -72,7 +72,7 @@ fn begin(
     if params >= u16::MAX as usize {
         return Err(AllocError);
     }
-    Ok(Out {
+    Ok(Draft {
         method: number,
         trees: Items::new(alloc),
         nodes,
@@ -82,7 +82,7 @@ fn begin(
     })
 }
 
-impl Out {
+impl Draft {
     // A body that can reach its end returns there.
     fn end(
         &mut self,
@@ -116,7 +116,7 @@ fn body(
     number: u16,
     m: &tree::Method,
     nodes: Items<Node>,
-) -> Result<Out, AllocError>
+) -> Result<Draft, AllocError>
     ensures { IfOk result (λ out. out ≡ lowered_body checked.now number m.now nodes) }
 {
     let mut out = begin(alloc, checked, number, m, nodes)?;
@@ -157,7 +157,7 @@ pub fn lower_method(
     if params > u16::MAX as usize {
         return Err(AllocError);
     }
-    let Out {
+    let Draft {
         nodes,
         slots,
         trees,

@@ -3,9 +3,9 @@ ghost use Rattle.std.specs.Prelude.{◌≡◌, [], ◌∷◌, ◌++◌, length, 
 ghost use Rattle.px_types.specs.Members.{methods_in};
 ghost use Rattle.px_lower.specs.Programs.{lowered, lowered_members, lowered_methods, lowered_fields, field_decls, field_node, main_members as members_of_main};
 
+use crate::draft::{line_at, next_node};
 use crate::facts::type_named;
 use crate::method::lower_method;
-use crate::out::{line_at, next_node};
 use px_code::{Class, Code, Field, Method, Node, NodeKind};
 use px_lex::tree::{FieldDecl, Member, Program};
 use px_types::Checked;

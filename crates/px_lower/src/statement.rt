@@ -2,15 +2,15 @@
 ghost use Rattle.std.specs.Prelude.{◌≡◌, map, OnOk};
 ghost use Rattle.px_lower.specs.Statements.{low_stmt, lower_all, block_low, local_low, return_low};
 
+use crate::draft::Draft;
 use crate::facts::type_named;
-use crate::out::Out;
 use px_code::{Counter, Word};
 use px_lex::tree::{Expr, Stmt, StmtForm};
 use px_types::Checked;
 use px_value::Ty;
 use std::alloc::AllocError;
 
-impl Out {
+impl Draft {
     /// A statement of a method of this type.
     #[cycle(statement)]
     #[tactic(auto, using(crate::proofs::StmtForms::lowers))]

@@ -14,7 +14,7 @@ use std::alloc::AllocError;
 
 /// What is lowered so far of a method.
 #[derive(Drop)]
-pub struct Out {
+pub struct Draft {
     /// The number of the method.
     pub method: u16,
     pub trees: Items<Tree>,
@@ -48,7 +48,7 @@ pub fn next_node(nodes: &Items<Node>) -> Result<u32, AllocError>
     Ok(count as u32 + 1)
 }
 
-impl Out {
+impl Draft {
     /// Adds a statement, with its node.
     pub fn emit(
         &mut self,
