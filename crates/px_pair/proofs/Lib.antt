@@ -1,0 +1,4 @@
+pub mod Heaps
+pub mod Frames
+pub mod Acts
+pub mod Statements
