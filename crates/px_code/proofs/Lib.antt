@@ -1,2 +1,4 @@
 pub mod InPlace
 pub mod Alone
+pub mod Written
+pub mod Staying

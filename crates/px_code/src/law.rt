@@ -1,5 +1,5 @@
 //! What holds of code, as theorems about its definitions.
-ghost use Rattle.px_code.specs.Law.{PointsToMainAlone, KeepsItsHome};
+ghost use Rattle.px_code.specs.Law.{PointsToMainAlone, KeepsItsHome, StepsStay};
 
 /// As long as no statement allocates, every reference leads to the object of Main: site 0.
 pub fn points_to_main_alone()
@@ -9,4 +9,10 @@ pub fn points_to_main_alone()
 /// A side keeps what is at home there.
 pub fn keeps_its_home()
     ensures { KeepsItsHome }
+{}
+
+/// Statements of a method read and write only what points-to says, on a heap of the right shape, and leave one.
+/// No literal in them may be a reference: points-to would miss where it leads.
+pub fn steps_stay()
+    ensures { StepsStay }
 {}
