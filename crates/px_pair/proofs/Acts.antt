@@ -64,7 +64,7 @@ module _ (plan : Plan) (side : Side) (near far : Machine) where
   Copies heap marks one = (place index : ℕ) → CopiesAgree plan side (with_heap heap marks) far one place index
 
   -- keeping goes by headers alone
-  keeps_same : (y : Side) (one two : List Object) (o i : ℕ) → header_at two o ≡ header_at one o → KeepsCell plan y two o i → KeepsCell plan y one o i
+  pub keeps_same : (y : Side) (one two : List Object) (o i : ℕ) → header_at two o ≡ header_at one o → KeepsCell plan y two o i → KeepsCell plan y one o i
   keeps_same y one two o i e k h is = k h (e ∙ is)
 
   after_write : (heap one : List Object) (marks : List Cell) (o i : ℕ) (v : Value) → Copies heap marks one → Copies (written heap o i v) (marks ++ record { object = o; index = i } ∷ []) (written one o i v)

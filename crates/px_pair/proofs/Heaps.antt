@@ -22,7 +22,7 @@ same_true zero (suc n) h = cc
 same_true (suc m) zero h = cc
 same_true (suc m) (suc n) h = ap suc (same_true m n h)
 
-same_refl : (m : ℕ) → same m m ≡ true
+pub same_refl : (m : ℕ) → same m m ≡ true
 same_refl zero = refl
 same_refl (suc m) = same_refl m
 
@@ -83,7 +83,7 @@ or_false : (b : Bool) → (b || false) ≡ b
 or_false true = refl
 or_false false = refl
 
-or_assoc : (a b c : Bool) → (a || (b || c)) ≡ ((a || b) || c)
+pub or_assoc : (a b c : Bool) → (a || (b || c)) ≡ ((a || b) || c)
 or_assoc true b c = refl
 or_assoc false b c = refl
 

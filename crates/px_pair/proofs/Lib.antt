@@ -2,3 +2,4 @@ pub mod Heaps
 pub mod Frames
 pub mod Acts
 pub mod Statements
+pub mod Steps
