@@ -1,0 +1,5 @@
+pub mod Heaps
+pub mod Frames
+pub mod Acts
+pub mod Statements
+pub mod Steps

@@ -1,0 +1,7 @@
+//! What two ends together do.
+ghost use Rattle.px_pair.specs.Law.{BlocksRunAlike};
+
+/// Where two ends together have one heap and one stack, a block does at the end with control what it does on that heap: the same statements run, with the same reads and writes, and both ends have one heap again. What it reads is the newest value.
+pub fn blocks_run_alike()
+    ensures { BlocksRunAlike }
+{}
