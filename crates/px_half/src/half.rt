@@ -2,7 +2,6 @@
 ghost use Rattle.std.specs.Prelude.{◌≡◌, [], slice_get, true, false, Some, None, IfOk, OnOk, OnErr};
 ghost use Rattle.px_code.specs.declared.side.Side.TheVariants.{App, Db};
 ghost use Rattle.px_wire.specs.Fitting.{HasSpelling, UpdatesHaveSpelling};
-ghost use Rattle.px_half.specs.Machine.{machine_of};
 ghost use Rattle.px_half.specs.Messages.{IsTellable, IsTransfer, AreUpdates, IsMessage, IsEmitted, told};
 ghost use Rattle.px_half.specs.Absorbed.{absorbed, IsAbsorbed, IsRefused, IfBad};
 ghost use Rattle.px_half.specs.End.{plan_at as plan_of, HasSmallMain, new_end, begun, attended, block_run, reply_at, rested, closed_now, rolled_back};
@@ -286,6 +285,8 @@ impl Half {
 // What tests see of an end.
 #[cfg(test)]
 impl Half {
+    ghost use Rattle.px_half.specs.Machine.{machine_of};
+
     pub(crate) fn side(&self) -> Side
         ensures { result ≡ self.now.side }
     {

@@ -8,7 +8,9 @@ ghost use Rattle.px_half.specs.End.{HasSmallMain};
 ghost use Rattle.px_half.specs.Machine.{machine_of};
 ghost use Rattle.px_half.specs.Messages.{IsTellable, IsTellableFrame, IsTellableHeap};
 
+use crate::first_heap::class_defaults;
 use crate::machine::Machine;
+use crate::plans::plan_at;
 use crate::{AbsorbError, Half, Step};
 use px_code::{
     Block, Blocks, Class, Code, Exit, Field, Frame, Keep, Method, Operand, Placement, Plan, Plans,
@@ -278,9 +280,24 @@ struct Ends {
     db: Half,
 }
 
-fn new_ends(alloc: Global) -> Result<Ends, AllocError> {
+// Whether an object of Main fits into a heap.
+fn has_small_main(alloc: Global, plans: &Plans) -> Result<bool, AllocError>
+    ensures { IfOk result (λ is. is ≡ true → HasSmallMain (slice_get plans.now.value.items 0)) }
+{
+    match plan_at(plans, 0) {
+        None => Ok(true),
+        Some(plan) => {
+            let cells = class_defaults(alloc, &plan.code, plan.code.main)?;
+            Ok(cells.len() < 100000)
+        }
+    }
+}
+
+fn new_ends(rt: &impl Abort, alloc: Global) -> Result<Ends, AllocError> {
     let plan = plan(alloc)?;
     let plans: Plans = Arc::new(alloc, vec![in alloc; plan]?)?;
+    let is_small = has_small_main(alloc, &plans)?;
+    assert!(rt; is_small);
     Ok(Ends {
         app: Half::new(alloc, Side::App, &plans)?,
         db: Half::new(alloc, Side::Db, &plans)?,
@@ -432,7 +449,7 @@ fn are_those_of_f(messages: &[Vec<u8>]) -> bool {
 #[test]
 fn a_call_goes_to_the_other_end_and_back(rt: HostRuntime) -> Result<(), Fail> {
     let alloc = rt.alloc();
-    let mut ends = new_ends(alloc)?;
+    let mut ends = new_ends(&rt, alloc)?;
     open(&rt, alloc, &mut ends, 1, &[])?;
     let Ends { mut app, mut db } = ends;
 
@@ -466,7 +483,7 @@ fn a_call_goes_to_the_other_end_and_back(rt: HostRuntime) -> Result<(), Fail> {
 #[test]
 fn a_second_call_sees_what_the_first_wrote(rt: HostRuntime) -> Result<(), Fail> {
     let alloc = rt.alloc();
-    let mut ends = new_ends(alloc)?;
+    let mut ends = new_ends(&rt, alloc)?;
     let seven = [Value::Long(7)];
     let cases: [(u16, &[Value], Option<i64>); 6] = [
         (2, &[], Some(0)),
@@ -514,7 +531,7 @@ fn goes_on(rt: &impl Abort, alloc: Global, ends: &mut Ends) -> Result<(), Fail> 
 
 // Tells whether DB takes the bytes in place of the first message. If it doesn't, the call goes on to its end.
 fn is_taken(rt: &impl Abort, alloc: Global, bytes: &[u8]) -> Result<bool, Fail> {
-    let mut ends = new_ends(alloc)?;
+    let mut ends = new_ends(rt, alloc)?;
     until_there(rt, alloc, &mut ends)?;
     match ends.db.absorb(alloc, bytes) {
         Ok(()) => Ok(true),
@@ -571,11 +588,33 @@ fn a_message_is_taken_whole_or_not_at_all(rt: HostRuntime) -> Result<(), Fail> {
 
 // ---- what isn't there
 
-// A commit or a transfer, which DB takes at the begin of a call, or refuses and has what it had.
-fn names_what_is_there(rt: &impl Abort, alloc: Global, bytes: &[u8]) -> Result<bool, Fail> {
-    let mut ends = new_ends(alloc)?;
+// Bytes, written as pairs of hexadecimal digits with spaces between.
+fn hex(alloc: Global, digits: &str) -> Result<Vec<u8>, AllocError> {
+    let mut bytes = Vec::new(alloc);
+    let mut high = None;
+    for byte in digits.as_bytes() {
+        let digit = match *byte {
+            b'0'..=b'9' => *byte - b'0',
+            b'a'..=b'f' => *byte - b'a' + 10,
+            _ => continue,
+        };
+        match high {
+            None => high = Some(digit),
+            Some(first) => {
+                bytes.push((first & 15) << 4 | digit)?;
+                high = None;
+            }
+        }
+    }
+    Ok(bytes)
+}
+
+// Whether DB takes a message at the begin of a call. Where it refuses it, it has what it had.
+fn names_what_is_there(rt: &impl Abort, alloc: Global, digits: &str) -> Result<bool, Fail> {
+    let mut ends = new_ends(rt, alloc)?;
     open(rt, alloc, &mut ends, 1, &[])?;
-    let taken = ends.db.absorb(alloc, bytes);
+    let bytes = hex(alloc, digits)?;
+    let taken = ends.db.absorb(alloc, bytes.as_slice());
     match taken {
         Ok(()) => {}
         Err(AbsorbError::BadMessage) => assert!(rt; has(&ends.db, 0, 0)),
@@ -588,172 +627,96 @@ fn names_what_is_there(rt: &impl Abort, alloc: Global, bytes: &[u8]) -> Result<b
 fn what_is_not_there_is_refused(rt: HostRuntime) -> Result<(), Fail> {
     let alloc = rt.alloc();
     // Of each pair the first is there. The plan has 8 blocks, 5 methods, class 0 and no sites.
-    let cases: [(&str, &[u8], &[u8]); 14] = [
+    let pairs = [
         (
             "block",
-            &[
-                1, 0, 0, 0, 8, 0, 0, 0, 0, 0, 0, 0, 0, 0, 0, 0, 0, 0, 0, 0, 0, 0, 0,
-            ],
-            &[
-                1, 0, 0, 0, 9, 0, 0, 0, 0, 0, 0, 0, 0, 0, 0, 0, 0, 0, 0, 0, 0, 0, 0,
-            ],
+            "01 00000008 00000000 00 00  00000000 00000000 00000000",
+            "01 00000009 00000000 00 00  00000000 00000000 00000000",
         ),
         (
             "base",
-            &[
-                1, 0, 0, 0, 1, 0, 0, 0, 0, 0, 0, 0, 0, 0, 0, 0, 0, 0, 0, 0, 0, 0, 0,
-            ],
-            &[
-                1, 0, 0, 0, 1, 0, 0, 0, 0, 3, 0, 0, 0, 0, 0, 0, 0, 0, 0, 0, 0, 0, 0,
-            ],
+            "01 00000001 00000000 00 00  00000000 00000000 00000000",
+            "01 00000001 00000000 03 00  00000000 00000000 00000000",
         ),
         (
             "method of a frame",
-            &[
-                1, 0, 0, 0, 1, 0, 0, 0, 0, 0, 1, 0, 5, 0, 0, 0, 0, 0, 0, 0, 0, 0, 0, 0, 0, 0, 0, 0,
-                0,
-            ],
-            &[
-                1, 0, 0, 0, 1, 0, 0, 0, 0, 0, 1, 0, 6, 0, 0, 0, 0, 0, 0, 0, 0, 0, 0, 0, 0, 0, 0, 0,
-                0,
-            ],
+            "01 00000001 00000000 00 01  0005 00000000  00000000 00000000 00000000",
+            "01 00000001 00000000 00 01  0006 00000000  00000000 00000000 00000000",
         ),
         (
             "block of a frame",
-            &[
-                1, 0, 0, 0, 1, 0, 0, 0, 0, 0, 1, 0, 1, 0, 0, 0, 8, 0, 0, 0, 0, 0, 0, 0, 0, 0, 0, 0,
-                0,
-            ],
-            &[
-                1, 0, 0, 0, 1, 0, 0, 0, 0, 0, 1, 0, 1, 0, 0, 0, 9, 0, 0, 0, 0, 0, 0, 0, 0, 0, 0, 0,
-                0,
-            ],
+            "01 00000001 00000000 00 01  0001 00000008  00000000 00000000 00000000",
+            "01 00000001 00000000 00 01  0001 00000009  00000000 00000000 00000000",
         ),
         (
             "slot of a frame",
-            &[
-                1, 0, 0, 0, 1, 0, 0, 0, 0, 0, 1, 0, 1, 0, 0, 0, 0, 0, 0, 0, 1, 0, 0, 0, 1, 0, 0, 0,
-                0, 0, 0, 0, 0, 0,
-            ],
-            &[
-                1, 0, 0, 0, 1, 0, 0, 0, 0, 0, 1, 0, 1, 0, 0, 0, 0, 0, 0, 0, 1, 0, 0, 0, 2, 0, 0, 0,
-                0, 0, 0, 0, 0, 0,
-            ],
+            "01 00000001 00000000 00 01  0001 00000000  00000001 0000 0001 00  00000000 00000000",
+            "01 00000001 00000000 00 01  0001 00000000  00000001 0000 0002 00  00000000 00000000",
         ),
         (
             "slot of the lowest frame",
-            &[
-                1, 0, 0, 0, 1, 0, 0, 0, 0, 0, 1, 0, 0, 0, 0, 0, 0, 0, 0, 0, 1, 0, 0, 0, 0, 0, 0, 0,
-                0, 0, 0, 0, 0, 0,
-            ],
-            &[
-                1, 0, 0, 0, 1, 0, 0, 0, 0, 0, 1, 0, 0, 0, 0, 0, 0, 0, 0, 0, 1, 0, 0, 0, 1, 0, 0, 0,
-                0, 0, 0, 0, 0, 0,
-            ],
+            "01 00000001 00000000 00 01  0000 00000000  00000001 0000 0000 00  00000000 00000000",
+            "01 00000001 00000000 00 01  0000 00000000  00000001 0000 0001 00  00000000 00000000",
         ),
         (
             "frame of a slot",
-            &[
-                1, 0, 0, 0, 1, 0, 0, 0, 0, 0, 1, 0, 1, 0, 0, 0, 0, 0, 0, 0, 1, 0, 0, 0, 0, 0, 0, 0,
-                0, 0, 0, 0, 0, 0,
-            ],
-            &[
-                1, 0, 0, 0, 1, 0, 0, 0, 0, 0, 1, 0, 1, 0, 0, 0, 0, 0, 0, 0, 1, 0, 1, 0, 0, 0, 0, 0,
-                0, 0, 0, 0, 0, 0,
-            ],
+            "01 00000001 00000000 00 01  0001 00000000  00000001 0000 0000 00  00000000 00000000",
+            "01 00000001 00000000 00 01  0001 00000000  00000001 0001 0000 00  00000000 00000000",
         ),
         (
             "object in a slot",
-            &[
-                1, 0, 0, 0, 1, 0, 0, 0, 0, 0, 1, 0, 1, 0, 0, 0, 0, 0, 0, 0, 1, 0, 0, 0, 0, 5, 0, 0,
-                0, 0, 0, 0, 0, 0, 0, 0, 0, 0,
-            ],
-            &[
-                1, 0, 0, 0, 1, 0, 0, 0, 0, 0, 1, 0, 1, 0, 0, 0, 0, 0, 0, 0, 1, 0, 0, 0, 0, 5, 0, 0,
-                0, 1, 0, 0, 0, 0, 0, 0, 0, 0,
-            ],
+            "01 00000001 00000000 00 01  0001 00000000  00000001 0000 0000 05 00000000  00000000 00000000",
+            "01 00000001 00000000 00 01  0001 00000000  00000001 0000 0000 05 00000001  00000000 00000000",
         ),
         (
             "object of a cell",
-            &[
-                4, 0, 0, 0, 0, 0, 0, 0, 1, 0, 0, 0, 0, 0, 0, 0, 1, 2, 0, 0, 0, 0, 0, 0, 0, 9,
-            ],
-            &[
-                4, 0, 0, 0, 0, 0, 0, 0, 1, 0, 0, 0, 1, 0, 0, 0, 1, 2, 0, 0, 0, 0, 0, 0, 0, 9,
-            ],
+            "04 00000000  00000001 00000000 00000001 02 0000000000000009",
+            "04 00000000  00000001 00000001 00000001 02 0000000000000009",
         ),
         (
             "index of a cell",
-            &[
-                4, 0, 0, 0, 0, 0, 0, 0, 1, 0, 0, 0, 0, 0, 0, 0, 0, 2, 0, 0, 0, 0, 0, 0, 0, 9,
-            ],
-            &[
-                4, 0, 0, 0, 0, 0, 0, 0, 1, 0, 0, 0, 0, 0, 0, 0, 2, 2, 0, 0, 0, 0, 0, 0, 0, 9,
-            ],
+            "04 00000000  00000001 00000000 00000000 02 0000000000000009",
+            "04 00000000  00000001 00000000 00000002 02 0000000000000009",
         ),
-        // Both bring one new object, which is object 1.
         (
-            "object in a cell",
-            &[
-                4, 0, 0, 0, 1, 0, 0, 0, 0, 0, 0, 0, 0, 2, 0, 0, 0, 1, 0, 0, 0, 0, 0, 0, 0, 0, 5, 0,
-                0, 0, 1,
-            ],
-            &[
-                4, 0, 0, 0, 1, 0, 0, 0, 0, 0, 0, 0, 0, 2, 0, 0, 0, 1, 0, 0, 0, 0, 0, 0, 0, 0, 5, 0,
-                0, 0, 2,
-            ],
+            "object in a cell, beside a new object 1",
+            "04 00000001 00 0000 0000 00000002  00000001 00000000 00000000 05 00000001",
+            "04 00000001 00 0000 0000 00000002  00000001 00000000 00000000 05 00000002",
         ),
-        // Both bring two, the second of which has a class.
         (
-            "class",
-            &[
-                4, 0, 0, 0, 2, 0, 0, 0, 0, 0, 0, 0, 0, 2, 0, 0, 0, 0, 0, 0, 0, 0, 2, 0, 0, 0, 0,
-            ],
-            &[
-                4, 0, 0, 0, 2, 0, 0, 0, 0, 0, 0, 0, 0, 2, 0, 0, 1, 0, 0, 0, 0, 0, 2, 0, 0, 0, 0,
-            ],
+            "class of a second new object",
+            "04 00000002 00 0000 0000 00000002 00 0000 0000 00000002  00000000",
+            "04 00000002 00 0000 0000 00000002 00 0001 0000 00000002  00000000",
         ),
-        // An array of references to objects of class 0, and of class 1.
         (
-            "type of elements",
-            &[4, 0, 0, 0, 1, 1, 0, 4, 0, 0, 0, 0, 0, 3, 0, 0, 0, 0],
-            &[4, 0, 0, 0, 1, 1, 0, 5, 0, 0, 0, 0, 0, 3, 0, 0, 0, 0],
+            "class of the elements of an array",
+            "04 00000001 01 0004 0000 00000003  00000000",
+            "04 00000001 01 0005 0000 00000003  00000000",
         ),
-        // An array of 50,000 longs, and one of 50,001.
         (
-            "length of an array",
-            &[4, 0, 0, 0, 1, 1, 0, 1, 0, 0, 0, 0, 0xc3, 0x50, 0, 0, 0, 0],
-            &[4, 0, 0, 0, 1, 1, 0, 1, 0, 0, 0, 0, 0xc3, 0x51, 0, 0, 0, 0],
+            "length of an array, 50,000 and one more",
+            "04 00000001 01 0001 0000 0000c350  00000000",
+            "04 00000001 01 0001 0000 0000c351  00000000",
         ),
     ];
-    for (name, there, missing) in cases {
+    for (name, there, missing) in pairs {
         assert!(rt; names_what_is_there(&rt, alloc, there)?, "{name}");
         assert!(rt; !names_what_is_there(&rt, alloc, missing)?, "{name}");
     }
-    let never: [(&str, &[u8]); 5] = [
-        (
-            "site 1",
-            &[4, 0, 0, 0, 1, 0, 0, 0, 0, 1, 0, 0, 0, 2, 0, 0, 0, 0],
-        ),
+    let never = [
+        ("site", "04 00000001 00 0000 0001 00000002  00000000"),
         (
             "too few fields",
-            &[4, 0, 0, 0, 1, 0, 0, 0, 0, 0, 0, 0, 0, 1, 0, 0, 0, 0],
+            "04 00000001 00 0000 0000 00000001  00000000",
         ),
         (
             "too many fields",
-            &[4, 0, 0, 0, 1, 0, 0, 0, 0, 0, 0, 0, 0, 3, 0, 0, 0, 0],
+            "04 00000001 00 0000 0000 00000003  00000000",
         ),
-        (
-            "rows",
-            &[4, 0, 0, 0, 1, 2, 0, 0, 0, 0, 0, 0, 0, 0, 0, 0, 0, 0],
-        ),
-        // Two arrays of 50,000 elements
+        ("rows", "04 00000001 02 0000 0000 00000000  00000000"),
         (
             "more than a heap holds",
-            &[
-                4, 0, 0, 0, 2, 1, 0, 1, 0, 0, 0, 0, 0xc3, 0x50, 1, 0, 1, 0, 0, 0, 0, 0xc3, 0x50, 0,
-                0, 0, 0,
-            ],
+            "04 00000002 01 0001 0000 0000c350 01 0001 0000 0000c350  00000000",
         ),
     ];
     for (name, bytes) in never {
@@ -768,7 +731,7 @@ fn what_is_not_there_is_refused(rt: HostRuntime) -> Result<(), Fail> {
 fn a_roll_back_leaves_no_trace(rt: HostRuntime) -> Result<(), Fail> {
     let alloc = rt.alloc();
     for times in 0..4 {
-        let mut ends = new_ends(alloc)?;
+        let mut ends = new_ends(&rt, alloc)?;
         let mut messages = Vec::new(alloc);
         open(&rt, alloc, &mut ends, 1, &[])?;
         go_on(&rt, alloc, &mut ends, times, &mut messages)?;
@@ -792,7 +755,7 @@ fn a_roll_back_leaves_no_trace(rt: HostRuntime) -> Result<(), Fail> {
 #[test]
 fn a_throw_is_rolled_back_to_the_last_close(rt: HostRuntime) -> Result<(), Fail> {
     let alloc = rt.alloc();
-    let mut ends = new_ends(alloc)?;
+    let mut ends = new_ends(&rt, alloc)?;
     call(&rt, alloc, &mut ends, 1, &[])?;
     open(&rt, alloc, &mut ends, 5, &[])?;
     let step = run(&rt, alloc, &mut ends.app)?;
