@@ -128,7 +128,7 @@ module _ (plan : Plan) (side : Side) (near far : Machine) where
   acts_alike (Writes o i v k) heap marks one c h =
       let cell : Cell = record { object = o; index = i } in
       let after : ActsAlike (written heap o i v) (marks ++ cell ∷ []) (written one o i v) (acted k (written heap o i v)) (acted k (written one o i v)) =
-          acts_alike k (written heap o i v) (marks ++ cell ∷ []) (written one o i v) (after_write heap one marks o i v c) (reads_same one (written one o i v) (acted k (written one o i v)).reads (header_written one o i v) h) in
+      acts_alike k (written heap o i v) (marks ++ cell ∷ []) (written one o i v) (after_write heap one marks o i v c) (reads_same one (written one o i v) (acted k (written one o i v)).reads (header_written one o i v) h) in
       record {
         ends = after.ends;
         reads = after.reads;

@@ -126,9 +126,9 @@ module _ (plan : Plan) where
 
   -- the object of a send that stands behind a write
   put_named : (m node k class field : ℕ) (a : Operand) (send : Option Send) (slots : Slots) (heap : List Object) (o : ℕ)
-    → NamesClasses code → HasStatement code m node (w.Put (InFrame k) class field a) → IsRightSend code sides m node (w.Put (InFrame k) class field a) send
-    → Fits code heap → slots k ≡ v.Ref o → Leads code heap (InSlot m k) o → KeepsCell plan (other (side_of sides node)) heap o field
-    → is_named (namings send slots) (home_in code sides (header_at heap o) field) o ≡ true
+      → NamesClasses code → HasStatement code m node (w.Put (InFrame k) class field a) → IsRightSend code sides m node (w.Put (InFrame k) class field a) send
+      → Fits code heap → slots k ≡ v.Ref o → Leads code heap (InSlot m k) o → KeepsCell plan (other (side_of sides node)) heap o field
+      → is_named (namings send slots) (home_in code sides (header_at heap o) field) o ≡ true
   put_named m node k class field a None slots heap o names has right fits at l kept =
       absurd (right (record {
         site = l.header.site;
@@ -144,10 +144,10 @@ module _ (plan : Plan) where
 
   -- what a word wrote and the other side keeps is named by the send behind it
   pub new_named : (m node : ℕ) (word : Word) (send : Option Send) (slots : Slots) (heap : List Object)
-    → NamesClasses code → HasStatement code m node word → HasNoReference word → IsRightSend code sides m node word send
-    → Fits code heap → ((n target : ℕ) → slots n ≡ v.Ref target → Leads code heap (InSlot m n) target)
-    → (o i : ℕ) → is_marked (acted (act_of word slots) heap).writes o i ≡ true → KeepsCell plan (other (side_of sides node)) heap o i
-    → is_named (namings send slots) (home_in code sides (header_at heap o) i) o ≡ true
+      → NamesClasses code → HasStatement code m node word → HasNoReference word → IsRightSend code sides m node word send
+      → Fits code heap → ((n target : ℕ) → slots n ≡ v.Ref target → Leads code heap (InSlot m n) target)
+      → (o i : ℕ) → is_marked (acted (act_of word slots) heap).writes o i ≡ true → KeepsCell plan (other (side_of sides node)) heap o i
+      → is_named (namings send slots) (home_in code sides (header_at heap o) i) o ≡ true
   new_named m node (w.Set to a) send slots heap names has plain right fits leads o i h kept = cc
   new_named m node (w.Op op to a b) send slots heap names has plain right fits leads o i h kept = cc
   new_named m node (w.Get to of class field) send slots heap names has plain right fits leads o i h kept = read_none (operand slots of) h
@@ -173,8 +173,8 @@ module _ (plan : Plan) where
       at_it : (p : ℕ) → slots n ≡ v.Ref p → p ≡ o → field ≡ i → is_named (namings send slots) (home_in code sides (header_at heap o) i) o ≡ true
       at_it p e same_object same_index =
           subst (λ q. is_named (namings send slots) (home_in code sides (header_at heap o) q) o ≡ true) same_index
-            (put_named m node n class field a send slots heap o names has right fits (e ∙ ap v.Ref same_object) (leads n o (e ∙ ap v.Ref same_object))
-              (subst (λ q. KeepsCell plan (other (side_of sides node)) heap o q) (sym same_index) kept))
+          (put_named m node n class field a send slots heap o names has right fits (e ∙ ap v.Ref same_object) (leads n o (e ∙ ap v.Ref same_object))
+          (subst (λ q. KeepsCell plan (other (side_of sides node)) heap o q) (sym same_index) kept))
 
       slot : (x : Value) → slots n ≡ x → is_marked (acted (at_object x (λ p. Writes p field (operand slots a) (comes v.Null))) heap).writes o i ≡ true → is_named (namings send slots) (home_in code sides (header_at heap o) i) o ≡ true
       slot (v.Int k) e r = cc

@@ -96,7 +96,7 @@ module _ (plan : Plan) (m : ℕ) (side : Side) where
 
       -- after an act, with any stacks that are seen alike
       agrees_with : (fs gs : List Frame) (n k : ℕ) (more less : List Naming) → map seen fs ≡ map seen gs → ((o i : ℕ) → is_marked here.writes o i ≡ true → KeepsCell plan (other side) there.heap o i → is_named more (home_in plan.code plan.placement.sides (header_at there.heap o) i) o ≡ true)
-        → Agree plan side (record (after_act here near) { frames = fs; base = n; named = near.named ++ more }) far (record (after_act there one) { frames = gs; base = k; named = one.named ++ less })
+          → Agree plan side (record (after_act here near) { frames = fs; base = n; named = near.named ++ more }) far (record (after_act there one) { frames = gs; base = k; named = one.named ++ less })
       agrees_with fs gs n k more less e new = record {
         frames = e;
         near_headers = λ o. al.here_headers o ∙ agree.near_headers o ∙ sym (same_header o);
@@ -142,7 +142,7 @@ module _ (plan : Plan) (m : ℕ) (side : Side) where
         ran = same_ran s.node here there alike.reads alike.writes;
         agree = subst (λ (ns : List Naming). Agree plan side (record (after_act here near) { named = ns }) far (after_act there one)) (append-nil near.named)
             (subst (λ (ns : List Naming). Agree plan side (record (after_act here near) { named = near.named ++ [] }) far (record (after_act there one) { named = ns })) (append-nil one.named)
-              (agrees_with here there alike near.frames one.frames near.base one.base [] [] agree.frames (λ o i h kept. absurd (unwritten o i h))));
+            (agrees_with here there alike near.frames one.frames near.base one.base [] [] agree.frames (λ o i h kept. absurd (unwritten o i h))));
       }
         where
           nothing_written : here.writes ≡ []
@@ -189,7 +189,7 @@ module _ (plan : Plan) (b : Block) (names : NamesClasses plan.code) where
       let first : RunsAlike plan b.side far (step s near) (step s one) = step_alike plan b.method b.side near far one agree names s are.0 plain.0 placed.0.side placed.0.send fits in
       let stays = step_stays plan.code b.method s one are.0 plain.0 fits in
       subst (λ (x : Stop). RunsAlike plan b.side far (then_steps (step s near) (steps rest) x) (then_steps (step s one) (steps rest) (step s one).stop)) (sym first.stop)
-        (then_alike far (step s near) (step s one) rest (step s one).stop refl first (λ on. all_alike rest (step s near).machine far (step s one).machine placed.1 are.1 plain.1 (stays.machine on) first.agree))
+      (then_alike far (step s near) (step s one) rest (step s one).stop refl first (λ on. all_alike rest (step s near).machine far (step s one).machine placed.1 are.1 plain.1 (stays.machine on) first.agree))
 
 pub blocks_run_alike : BlocksRunAlike
 blocks_run_alike plan b near far one names placed are plain fits agree = all_alike plan b names b.statements near far one placed are plain fits agree
