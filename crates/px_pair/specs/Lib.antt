@@ -1,2 +1,3 @@
 pub mod Agree
 pub mod Law
+pub mod Crossing

@@ -1,0 +1,66 @@
+-- Control goes over: what the message of one end leaves at the other.
+use Rattle.std.specs.Prelude.{◌≡◌, ℕ, true, false, List, [], ◌∷◌, ◌++◌, map, take, drop, length, Option, Some, nat_lt}
+use Rattle.std.specs.List.{list_all}
+use Rattle.px_value.specs.declared.object.Object.{Object}
+use Rattle.px_code.specs.declared.side.Side.{Side}
+use Rattle.px_code.specs.declared.frame.Frame.{Frame}
+use Rattle.px_code.specs.declared.frame.Slot.{Slot}
+use Rattle.px_code.specs.declared.block.Statement.{Statement}
+use Rattle.px_code.specs.declared.plan.Plan.{Plan}
+use Rattle.px_code.specs.Places.{other}
+use Rattle.px_code.specs.Fits.{Fits, header_at}
+use Rattle.px_code.specs.Machine.{Machine, steps}
+use Rattle.px_wire.specs.declared.slot.SlotAt.{SlotAt}
+use Rattle.px_wire.specs.declared.updates.Updates.{Updates}
+use Rattle.px_wire.specs.declared.transfer.Transfer.{Transfer}
+use Rattle.px_half.specs.Messages.{AreUpdates, frame_told, written_slots}
+use Rattle.px_half.specs.Absorbed.{blank_frame, with_slots, settled_frame, slot_count, with_room, with_cells}
+use Rattle.px_pair.specs.Agree.{seen, CopiesAgree, Agree}
+
+-- ---- the stack
+
+-- slots alike, but for those that were written since control came
+abbrev pub SlotsLike : List Slot → List Slot → Type 0
+SlotsLike [] [] = Unit {0}
+SlotsLike (s ∷ slots) (t ∷ others) = (s.written ≡ false → s.value ≡ t.value) × SlotsLike slots others
+SlotsLike _ _ = ⊥
+
+pub record FrameLike (x y : Frame) : Type 0 where
+  pub method : x.method ≡ y.method
+  pub back : x.back ≡ y.back
+  pub slots : SlotsLike x.slots y.slots
+
+abbrev pub FramesLike : List Frame → List Frame → Type 0
+FramesLike [] [] = Unit {0}
+FramesLike (x ∷ frames) (y ∷ others) = FrameLike x y × FramesLike frames others
+FramesLike _ _ = ⊥
+
+-- the stack that a message leaves at the other end, but for its slots: the lowest frames stay, and blank ones stand on them
+abbrev pub bare : Plan → Machine → Machine → List Frame
+bare plan near far = take near.base far.frames ++ map (blank_frame plan) (map frame_told (drop near.base near.frames))
+
+-- the slots of the message make it the stack of the side with control
+abbrev pub StackCrosses : Type 0
+StackCrosses = (plan : Plan) (near far : Machine) → FramesLike near.frames (bare plan near far) → map seen (map settled_frame (with_slots (written_slots 0 near.frames) (bare plan near far))) ≡ map seen near.frames
+
+-- each of these slots is there
+abbrev pub SlotsAreThere : Type 0
+SlotsAreThere = (plan : Plan) (near far : Machine) (t : Transfer) → t.base ≡ near.base → t.frames ≡ map frame_told (drop near.base near.frames) → FramesLike near.frames (bare plan near far) → list_all (λ (s : SlotAt). nat_lt s.slot (slot_count plan t far.frames s.frame)) (written_slots 0 near.frames) ≡ true
+
+-- the statements of a block leave both stacks alike
+abbrev pub StepsKeepStacks : Type 0
+StepsKeepStacks = (plan : Plan) (statements : List Statement) (near far : Machine) → FramesLike near.frames (bare plan near far) → FramesLike (steps statements near).machine.frames (bare plan (steps statements near).machine far)
+
+-- ---- the heap
+
+-- what the updates of a message leave at the other end
+pub record HeapCrossed (plan : Plan) (side : Side) (near far one : Machine) (u : Updates) : Type 0 where
+  -- everything that the message names is there
+  pub room : with_room plan u far.heap ≡ Some far.heap
+  pub headers : (place : ℕ) → header_at (with_cells u.cells far.heap) place ≡ header_at one.heap place
+  -- the other end now has the newest value of what it keeps, and this end of what it keeps
+  pub copies : (place index : ℕ) → CopiesAgree plan (other side) (record far { heap = with_cells u.cells far.heap; marks = [] }) near one.heap place index
+
+-- where both ends know all objects
+abbrev pub HeapCrosses : Type 0
+HeapCrosses = (plan : Plan) (side : Side) (near far one : Machine) (u : Updates) → Agree plan side near far one → Fits plan.code one.heap → AreUpdates (Some plan) (length near.heap) near u → HeapCrossed plan side near far one u
