@@ -69,7 +69,7 @@ fn put(of: u16, field: u16, value: Operand) -> Word {
     }
 }
 
-fn op(op: Op, to: u16, left: u16, right: Operand) -> Word {
+fn calculate(op: Op, to: u16, left: u16, right: Operand) -> Word {
     Word::Op {
         op,
         to,
@@ -113,74 +113,89 @@ fn methods(alloc: Global) -> Result<Items<Method>, AllocError> {
     Ok(methods)
 }
 
-fn line(node: u32, word: Word) -> Statement {
-    Statement {
+// Adds a statement without a send.
+fn add(lines: &mut Items<Statement>, node: u32, word: Word) -> Result<(), AllocError> {
+    lines.push(Statement {
         node,
         word,
         send: None,
-    }
+    })
 }
 
-fn block(method: u16, side: Side, exit: Exit, statements: Vec<Statement>) -> Block {
+fn add_with_send(lines: &mut Items<Statement>, node: u32, word: Word) -> Result<(), AllocError> {
+    lines.push(Statement {
+        node,
+        word,
+        send: Some(Send {
+            home: Side::App,
+            object: Operand::Slot(0),
+        }),
+    })
+}
+
+fn block(method: u16, side: Side, exit: Exit, statements: Items<Statement>) -> Block {
     Block {
         method,
         side,
-        statements: Items::from_vec(statements),
+        statements,
         exit,
     }
 }
 
 // a * 10 + b
-fn both(alloc: Global) -> Result<Vec<Statement>, AllocError> {
-    let mut lines = Vec::new(alloc);
-    lines.push(line(8, get(1, 0)))?;
-    lines.push(line(9, op(Op::Mul, 1, 1, long(10))))?;
-    lines.push(line(10, get(2, 1)))?;
-    lines.push(line(11, op(Op::Add, 1, 1, Operand::Slot(2))))?;
-    lines.push(line(12, give(1)))?;
+fn both(alloc: Global) -> Result<Items<Statement>, AllocError> {
+    let mut lines = Items::new(alloc);
+    add(&mut lines, 8, get(1, 0))?;
+    add(&mut lines, 9, calculate(Op::Mul, 1, 1, long(10)))?;
+    add(&mut lines, 10, get(2, 1))?;
+    add(&mut lines, 11, calculate(Op::Add, 1, 1, Operand::Slot(2)))?;
+    add(&mut lines, 12, give(1))?;
     Ok(lines)
 }
 
 // The write of a needs no send, and that of b at DB names what is at home at APP.
-fn blocks_of_f(alloc: Global, blocks: &mut Items<Block>) -> Result<(), AllocError> {
-    let mut lines = Vec::new(alloc);
-    lines.push(line(2, put(0, 0, long(1))))?;
+fn add_f(alloc: Global, blocks: &mut Items<Block>) -> Result<(), AllocError> {
+    let mut lines = Items::new(alloc);
+    add(&mut lines, 2, put(0, 0, long(1)))?;
     blocks.push(block(1, Side::App, Exit::Next(2), lines))?;
-    let mut lines = Vec::new(alloc);
-    lines.push(Statement {
-        node: 3,
-        word: put(0, 1, long(2)),
-        send: Some(Send {
-            home: Side::App,
-            object: Operand::Slot(0),
-        }),
-    })?;
+    let mut lines = Items::new(alloc);
+    add_with_send(&mut lines, 3, put(0, 1, long(2)))?;
     blocks.push(block(1, Side::Db, Exit::Next(3), lines))?;
-    let mut lines = Vec::new(alloc);
-    lines.push(line(4, get(1, 1)))?;
-    lines.push(line(5, give(1)))?;
+    let mut lines = Items::new(alloc);
+    add(&mut lines, 4, get(1, 1))?;
+    add(&mut lines, 5, give(1))?;
     blocks.push(block(1, Side::App, Exit::Return, lines))
+}
+
+fn add_both(alloc: Global, blocks: &mut Items<Block>) -> Result<(), AllocError> {
+    blocks.push(block(2, Side::App, Exit::Return, both(alloc)?))?;
+    blocks.push(block(3, Side::Db, Exit::Return, both(alloc)?))
+}
+
+fn add_set(alloc: Global, blocks: &mut Items<Block>) -> Result<(), AllocError> {
+    let mut lines = Items::new(alloc);
+    add(&mut lines, 13, put(0, 0, Operand::Slot(1)))?;
+    blocks.push(block(4, Side::App, Exit::Next(7), lines))?;
+    let mut lines = Items::new(alloc);
+    add(&mut lines, 14, Word::Return(None))?;
+    blocks.push(block(4, Side::App, Exit::Return, lines))
+}
+
+fn add_throw(alloc: Global, blocks: &mut Items<Block>) -> Result<(), AllocError> {
+    let mut lines = Items::new(alloc);
+    add(&mut lines, 15, put(0, 0, long(5)))?;
+    add(&mut lines, 16, put(1, 0, long(5)))?;
+    blocks.push(block(5, Side::App, Exit::Return, lines))
 }
 
 fn blocks(alloc: Global) -> Result<Blocks, AllocError> {
     let mut blocks = Items::new(alloc);
-    blocks_of_f(alloc, &mut blocks)?;
-    blocks.push(block(2, Side::App, Exit::Return, both(alloc)?))?;
-    blocks.push(block(3, Side::Db, Exit::Return, both(alloc)?))?;
-    let mut lines = Vec::new(alloc);
-    lines.push(line(13, put(0, 0, Operand::Slot(1))))?;
-    blocks.push(block(4, Side::App, Exit::Next(7), lines))?;
-    let mut lines = Vec::new(alloc);
-    lines.push(line(14, Word::Return(None)))?;
-    blocks.push(block(4, Side::App, Exit::Return, lines))?;
-    let mut lines = Vec::new(alloc);
-    lines.push(line(15, put(0, 0, long(5))))?;
-    lines.push(line(16, put(1, 0, long(5))))?;
-    blocks.push(block(5, Side::App, Exit::Return, lines))?;
-    Ok(Blocks {
-        blocks,
-        firsts: Items::from_slice(alloc, &[1, 4, 5, 6, 8])?,
-    })
+    add_f(alloc, &mut blocks)?;
+    add_both(alloc, &mut blocks)?;
+    add_set(alloc, &mut blocks)?;
+    add_throw(alloc, &mut blocks)?;
+    let firsts = Items::from_slice(alloc, &[1, 4, 5, 6, 8])?;
+    Ok(Blocks { blocks, firsts })
 }
 
 fn code(alloc: Global) -> Result<Code, AllocError> {
