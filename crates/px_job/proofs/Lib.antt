@@ -6,3 +6,4 @@ pub mod NodesMore
 pub mod SpelledWords
 pub mod FiledLines
 pub mod FittingCalls
+pub mod FittingParts

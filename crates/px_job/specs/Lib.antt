@@ -11,6 +11,6 @@ pub mod Filing
 pub mod Spelling
 pub mod Calls
 pub mod Jobs
-pub mod Fitting
 pub mod Parts
 pub mod SplitJobs
+pub mod Fitting

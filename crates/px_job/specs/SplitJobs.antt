@@ -1,5 +1,5 @@
 -- What a file of calls and a part means.
-use Rattle.std.specs.Prelude.{◌≡◌, ℕ, ◌+◌, Bool, false, ◌&&◌, ◌||◌, List, [], ◌∷◌, drop, length, Option, Some, None, Result, Ok, Err, IfOk, if◌then◌else◌, codes}
+use Rattle.std.specs.Prelude.{◌≡◌, ℕ, ◌+◌, Bool, false, ◌&&◌, ◌||◌, List, [], ◌∷◌, drop, Option, Some, None, Result, Ok, Err, if◌then◌else◌, codes}
 use Rattle.std.specs.Str.{bytes_eq}
 use Rattle.px_types.specs.declared.checked.Entry.{Entry}
 use Rattle.px_code.specs.declared.code.Code.{Code}
@@ -72,7 +72,3 @@ abbrev pub Means : {A : Type 0} → Result A JobError → Result A JobFault → 
 Means (Ok answer) meaning = meaning ≡ Ok answer
 Means (Err (Fault fault)) meaning = meaning ≡ Err fault
 Means (Err NoMemory) meaning = Unit {0}
-
--- the part of a job places each node, and nothing else
-abbrev pub PartsPlaceNodes : Type 0
-PartsPlaceNodes = (entries : List Entry) (code : Code) (bytes : List ℕ) → IfOk (split_job_of entries code bytes) (λ job. length job.part.sides.sides ≡ length code.nodes)

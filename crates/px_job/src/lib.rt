@@ -1,4 +1,4 @@
-//! A file of calls: its lines, and what they mean for a program's entries.
+//! A file of calls: its lines, and what they mean for a program's entries and its code.
 #![tactic(auto)]
 
 mod arguments;
@@ -23,6 +23,6 @@ mod titles;
 mod words;
 
 pub use job::{Call, Job, JobCode, JobError, JobFault, Part, SplitJob};
-pub use laws::{calls_fit, lines_are_filed, words_are_spelled};
+pub use laws::{calls_fit, lines_are_filed, split_jobs_fit, words_are_spelled};
 pub use read::read_job;
 pub use split::read_split_job;
