@@ -77,7 +77,8 @@ field_nodes code name = option_map (λ node. node ∷ []) (number_of name (field
 -- what a selector selects; none where it names what isn't there
 abbrev pub selected : Code → List (List ℕ) → Option (List ℕ)
 selected code (kind ∷ name ∷ rest) = if is_line kind then line_nodes code name else if is_method kind then method_nodes code name else field_nodes code name
-selected code _ = Some (numbers_of any_node 1 code.nodes)
+selected code (kind ∷ []) = Some (numbers_of any_node 1 code.nodes)
+selected code [] = None
 
 -- the map has the statements of each line
 abbrev pub AreStatements : {S : Type 0} → HashMap ℕ (List ℕ) S → List Node → Type 0

@@ -1,6 +1,6 @@
 //! What side lines select, found by names and lines.
 
-ghost use Rattle.std.specs.Prelude.{◌≡◌, true, IfOk};
+ghost use Rattle.std.specs.Prelude.{◌≡◌, IfOk};
 ghost use Rattle.px_job.specs.Titles.{method_titles, field_titles};
 ghost use Rattle.px_job.specs.Words.{words_of};
 ghost use Rattle.px_job.specs.Selecting.{is_selector, is_line, is_method, is_field, numbers_of, any_node, node_of, nodes_of, line_nodes, method_nodes, field_nodes, selected};
@@ -49,14 +49,13 @@ impl<'a> Index<'a> {
         })
     }
 
-    /// The numbers of the nodes that a selector selects; none where it names what isn't there.
-    /// It takes as long as there are such nodes.
+    /// The numbers of the nodes that the words of a selector select; none where they name what
+    /// isn't there. It takes as long as there are such nodes.
     pub(crate) fn select(
         &self,
         alloc: Global,
         line: &[u8],
     ) -> Result<Option<Items<usize>>, AllocError>
-        requires { is_selector (words_of line.now) ≡ true }
         ensures { IfOk result (λ numbers. numbers ≡ selected self.now.code.now (words_of line.now)) }
     {
         let Some((kind, rest)) = split_word(line) else {
