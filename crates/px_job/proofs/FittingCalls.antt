@@ -57,7 +57,7 @@ arguments_fit (ty ∷ tys) (word ∷ words) = both_fit ty tys (argument_of ty wo
 
 -- ---- one line
 
-abbrev Fits : List Entry → Result (Option Call) JobCode → Type 0
+abbrev pub Fits : List Entry → Result (Option Call) JobCode → Type 0
 Fits entries (Err code) = Unit {0}
 Fits entries (Ok None) = Unit {0}
 Fits entries (Ok (Some call)) = IsFitting entries call
@@ -83,7 +83,7 @@ call_fits entries calls (session ∷ name ∷ values) =
       | false ↦ elim (is_session session) as (λ b. Fits entries (if b then call_of entries calls name values else Err J5)) [ true ↦ to_fits entries calls values (place_of name entries) | false ↦ tt ]
     ]
 
-words_fit : (entries : List Entry) (calls : ℕ) (words : List (List ℕ)) → Fits entries (judged_words entries calls words)
+pub words_fit : (entries : List Entry) (calls : ℕ) (words : List (List ℕ)) → Fits entries (judged_words entries calls words)
 words_fit entries calls [] = tt
 words_fit entries calls (verb ∷ words) =
     elim (slice_index verb 0 == 35) as (λ b. Fits entries (if b then Ok None else if bytes_eq verb (codes "call") then judged_call entries calls words else Err J1)) [
@@ -96,7 +96,7 @@ line_fits entries calls line = elim (list_any (nat_le 128) line) as (λ b. Fits 
 
 -- ---- all lines
 
-all_more : (entries : List Entry) (calls : List Call) (call : Call) → AllByRecursion (IsFitting entries) calls → IsFitting entries call → AllByRecursion (IsFitting entries) (calls ++ call ∷ [])
+pub all_more : (entries : List Entry) (calls : List Call) (call : Call) → AllByRecursion (IsFitting entries) calls → IsFitting entries call → AllByRecursion (IsFitting entries) (calls ++ call ∷ [])
 all_more entries [] call all one = (one, tt)
 all_more entries (other ∷ calls) call all one = (all.0, all_more entries calls call all.1 one)
 

@@ -54,7 +54,7 @@ abbrev pub judged : List Entry → ℕ → List ℕ → Result (Option Call) Job
 judged entries calls line = if list_any (nat_le 128) line then Err J1 else judged_words entries calls (words_of line)
 
 -- What was answered is what the line means, unless memory ran out.
-abbrev pub Judges : Result (Option Call) Refusal → Result (Option Call) JobCode → Type 0
-Judges (Ok call) meaning = meaning ≡ Ok call
+abbrev pub Judges : {A : Type 0} → Result A Refusal → Result A JobCode → Type 0
+Judges (Ok answer) meaning = meaning ≡ Ok answer
 Judges (Err (Breaks code)) meaning = meaning ≡ Err code
 Judges (Err NoMemory) meaning = Unit {0}

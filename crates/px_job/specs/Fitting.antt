@@ -6,9 +6,12 @@ use Rattle.px_value.specs.declared.ty.Ty.TheVariants as types
 use Rattle.px_value.specs.declared.value.Value.{Value}
 use Rattle.px_value.specs.declared.value.Value.TheVariants as values
 use Rattle.px_types.specs.declared.checked.Entry.{Entry}
+use Rattle.px_code.specs.declared.code.Code.{Code}
 use Rattle.px_job.specs.Arguments.{max_text}
 use Rattle.px_job.specs.Jobs.{job_of}
+use Rattle.px_job.specs.SplitJobs.{split_job_of}
 use Rattle.px_job.specs.declared.job.Call.{Call}
+use Rattle.px_job.specs.declared.job.SplitJob.{SplitJob}
 
 -- an argument has its parameter's type
 abbrev pub has_type : Ty → Value → Bool
@@ -33,3 +36,11 @@ pub record IsFitting (entries : List Entry) (call : Call) : Type 0 where
 
 abbrev pub CallsFit : Type 0
 CallsFit = (entries : List Entry) (bytes : List ℕ) → IfOk (job_of entries bytes) (λ calls. AllByRecursion (IsFitting entries) calls)
+
+-- the calls fit, and the part has one side for each node
+pub record FitsSplit (entries : List Entry) (code : Code) (job : SplitJob) : Type 0 where
+  pub calls : AllByRecursion (IsFitting entries) job.calls
+  pub sides : length job.part.sides.sides ≡ length code.nodes
+
+abbrev pub SplitJobsFit : Type 0
+SplitJobsFit = (entries : List Entry) (code : Code) (bytes : List ℕ) → IfOk (split_job_of entries code bytes) (λ job. FitsSplit entries code job)

@@ -5,8 +5,12 @@ pub mod Names
 pub mod Texts
 pub mod Arguments
 pub mod Places
+pub mod Titles
+pub mod Selecting
 pub mod Filing
 pub mod Spelling
 pub mod Calls
 pub mod Jobs
+pub mod Parts
+pub mod SplitJobs
 pub mod Fitting

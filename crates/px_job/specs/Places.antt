@@ -13,6 +13,10 @@ place_from name place (entry ∷ entries) = if bytes_eq entry.name name then Som
 abbrev pub place_of : List ℕ → List Entry → Option ℕ
 place_of name entries = place_from name 0 entries
 
+-- the number that a map has for a name
+abbrev pub place_in : {S : Type 0} → HashMap (Bor (List ℕ)) ℕ S → List ℕ → Option ℕ
+place_in places name = get_by (λ k. bytes_eq name k.now) places
+
 -- the map has the place of each name
 abbrev pub ArePlaces : {S : Type 0} → HashMap (Bor (List ℕ)) ℕ S → List Entry → Type 0
-ArePlaces places entries = (name : List ℕ) → get_by (λ k. bytes_eq name k.now) places ≡ place_of name entries
+ArePlaces places entries = (name : List ℕ) → place_in places name ≡ place_of name entries

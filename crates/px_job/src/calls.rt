@@ -46,6 +46,18 @@ pub(crate) fn judge(
     if has_high_byte(line) {
         return Err(Refusal::Breaks(JobCode::J1));
     }
+    judge_words(alloc, entries, calls, line)
+}
+
+/// The same of a line without high bytes.
+pub(crate) fn judge_words(
+    alloc: Global,
+    entries: &Entries<'_>,
+    calls: usize,
+    line: &[u8],
+) -> Result<Option<Call>, Refusal>
+    ensures { Judges result (judged_words entries.now.list.now calls (words_of line.now)) }
+{
     let Some((verb, rest)) = split_word(line) else {
         return Ok(None);
     };
@@ -58,7 +70,8 @@ pub(crate) fn judge(
     judge_call(alloc, entries, calls, rest)
 }
 
-fn has_high_byte(line: &[u8]) -> bool
+/// Whether a byte of the line is 128 or above.
+pub(crate) fn has_high_byte(line: &[u8]) -> bool
     ensures { result ≡ list_any (nat_le 128) line.now }
 {
     line.iter().any(|byte| 128 <= *byte)

@@ -3,16 +3,16 @@
 ghost use Rattle.std.specs.Prelude.{◌≡◌, IfOk};
 ghost use Rattle.px_job.specs.Places.{place_of, ArePlaces};
 
+use crate::places::Places;
 use px_types::Entry;
 use std::alloc::{AllocError, Global};
-use std::collections::HashMap;
 
 /// The entries of a program, found by their names.
 #[derive(Drop)]
 pub(crate) struct Entries<'a> {
     pub(crate) list: &'a [Entry],
-    places: HashMap<&'a [u8], usize>,
-    ghost found: { ArePlaces places list.now },
+    places: Places<'a>,
+    ghost found: { ArePlaces places.map list.now },
 }
 
 impl<'a> Entries<'a> {
@@ -27,19 +27,19 @@ impl<'a> Entries<'a> {
     pub(crate) fn find(&self, name: &[u8]) -> Option<usize>
         ensures { result ≡ place_of name.now self.now.list.now }
     {
-        self.places.get(name).copied()
+        self.places.get(name)
     }
 }
 
 // From the last entry to the first, so that of each name the first stays.
-fn places_of(alloc: Global, entries: &[Entry]) -> Result<HashMap<&[u8], usize>, AllocError>
-    ensures { IfOk result (λ places. ArePlaces places entries.now) }
+fn places_of(alloc: Global, entries: &[Entry]) -> Result<Places<'_>, AllocError>
+    ensures { IfOk result (λ places. ArePlaces places.map entries.now) }
 {
-    let mut places = HashMap::new(alloc);
+    let mut places = Places::new(alloc);
     let mut place = entries.len();
     while place > 0 {
         place -= 1;
-        places.insert(entries[place].name.as_slice(), place)?;
+        places.put(entries[place].name.as_slice(), place)?;
     }
     Ok(places)
 }

@@ -3,7 +3,8 @@
 ghost use Rattle.std.specs.Prelude.{◌≡◌};
 ghost use Rattle.px_job.specs.declared.job.JobError.TheVariants.{NoMemory};
 
-use px_value::Values;
+use px_code::Placement;
+use px_value::{Text, Values};
 use sqlite_items::Items;
 use std::alloc::AllocError;
 use thiserror::Error;
@@ -25,6 +26,23 @@ pub struct Job {
     pub calls: Items<Call>,
 }
 
+/// How a program is split.
+#[derive(Drop)]
+pub struct Part {
+    pub name: Text,
+    /// The highest average load, per mille, under which it serves.
+    pub upto: u16,
+    /// One side for each node of the program.
+    pub sides: Placement,
+}
+
+/// The calls of a file, in its order, and the part under which they run.
+#[derive(Drop)]
+pub struct SplitJob {
+    pub calls: Items<Call>,
+    pub part: Part,
+}
+
 /// The rule that a line breaks.
 #[derive(Clone, Copy, Debug, PartialEq, Eq)]
 pub enum JobCode {
@@ -32,6 +50,8 @@ pub enum JobCode {
     Later,
     /// It has none of the forms.
     J1,
+    /// It has a number outside its range.
+    J4,
     /// It names a session that isn't there.
     J5,
     /// It names an unknown entry.
@@ -40,6 +60,12 @@ pub enum JobCode {
     J11,
     /// It has an argument of a wrong type, out of its type's range, or too long.
     J12,
+    /// It sets sides before the first part.
+    J13,
+    /// It names an unknown class, method or field, or a line that has no statement.
+    J14,
+    /// It is the last part, and doesn't serve up to the full load.
+    J17,
     /// It is one call too many.
     J18,
 }

@@ -1,6 +1,6 @@
 //! Laws of what the reader's contract says.
 
-ghost use Rattle.px_job.specs.Fitting.{CallsFit};
+ghost use Rattle.px_job.specs.Fitting.{CallsFit, SplitJobsFit};
 ghost use Rattle.px_job.specs.Filing.{LinesAreFiled};
 ghost use Rattle.px_job.specs.Spelling.{WordsAreSpelled};
 
@@ -17,4 +17,9 @@ pub fn words_are_spelled()
 /// Each call of a job is of an entry that there is, and has arguments of its parameters' types.
 pub fn calls_fit()
     ensures { CallsFit }
+{}
+
+/// The same of a job with a part, which has one side for each node of the program.
+pub fn split_jobs_fit()
+    ensures { SplitJobsFit }
 {}

@@ -1,20 +1,28 @@
-//! A file of calls: its lines, and what they mean for a program's entries.
+//! A file of calls: its lines, and what they mean for a program's entries and its code.
 #![tactic(auto)]
 
 mod arguments;
 mod calls;
+mod draft;
 mod entries;
+mod index;
 mod job;
 mod laws;
 mod lines;
 mod names;
+mod parts;
+mod places;
 mod read;
 mod reserved;
+mod split;
+mod statements;
 #[cfg(test)]
 mod tests;
 mod texts;
+mod titles;
 mod words;
 
-pub use job::{Call, Job, JobCode, JobError, JobFault};
-pub use laws::{calls_fit, lines_are_filed, words_are_spelled};
+pub use job::{Call, Job, JobCode, JobError, JobFault, Part, SplitJob};
+pub use laws::{calls_fit, lines_are_filed, split_jobs_fit, words_are_spelled};
 pub use read::read_job;
+pub use split::read_split_job;

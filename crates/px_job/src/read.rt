@@ -46,7 +46,8 @@ fn first_later(bytes: &[u8]) -> Option<u32>
     None
 }
 
-fn first_word(line: &[u8]) -> &[u8]
+/// The first word of the line, empty where there is none.
+pub(crate) fn first_word(line: &[u8]) -> &[u8]
     ensures { result.now ≡ first (words_of line.now) }
 {
     match split_word(line) {

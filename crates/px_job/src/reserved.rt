@@ -3,7 +3,7 @@
 ghost use Rattle.std.specs.Prelude.{◌≡◌};
 ghost use Rattle.std.specs.List.{list_any};
 ghost use Rattle.std.specs.Str.{bytes_eq};
-ghost use Rattle.px_job.specs.Reserved.{is_reserved, is_later};
+ghost use Rattle.px_job.specs.Reserved.{is_reserved, is_unread, is_part_word, is_later};
 
 // The keywords of Java, and `true`, `false` and `null`.
 const RESERVED: [&[u8]; 53] = [
@@ -62,7 +62,8 @@ const RESERVED: [&[u8]; 53] = [
     b"null",
 ];
 
-const LATER: [&[u8]; 13] = [
+// No command reads lines that begin with these yet.
+const UNREAD: [&[u8]; 10] = [
     b"sessions",
     b"workers",
     b"retries",
@@ -71,12 +72,11 @@ const LATER: [&[u8]; 13] = [
     b"perbyte",
     b"profile",
     b"row",
-    b"part",
-    b"app",
-    b"db",
     b"load",
     b"order",
 ];
+
+const PART_WORDS: [&[u8]; 3] = [b"part", b"app", b"db"];
 
 /// Whether the word is no identifier for its meaning in Java.
 pub(crate) fn is_reserved(word: &[u8]) -> bool
@@ -85,11 +85,24 @@ pub(crate) fn is_reserved(word: &[u8]) -> bool
     is_among(&RESERVED, word)
 }
 
-/// Whether lines that begin with the word aren't built yet.
+/// Whether no command reads lines that begin with the word yet.
+pub(crate) fn is_unread(word: &[u8]) -> bool
+    ensures { result ≡ is_unread word.now }
+{
+    is_among(&UNREAD, word)
+}
+
+fn is_part_word(word: &[u8]) -> bool
+    ensures { result ≡ is_part_word word.now }
+{
+    is_among(&PART_WORDS, word)
+}
+
+/// Whether a file of calls alone doesn't have lines that begin with the word yet.
 pub(crate) fn is_later(word: &[u8]) -> bool
     ensures { result ≡ is_later word.now }
 {
-    is_among(&LATER, word)
+    is_unread(word) || is_part_word(word)
 }
 
 fn is_among(words: &[&[u8]], word: &[u8]) -> bool

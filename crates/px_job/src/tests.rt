@@ -1,3 +1,5 @@
+mod split;
+
 use crate::{Job, JobCode, JobError, JobFault, read_job};
 use px_types::Entry;
 use px_value::{Text, Ty, Value};

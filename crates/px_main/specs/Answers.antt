@@ -88,10 +88,14 @@ program_code Later = codes "Later"
 abbrev pub job_code : JobCode → List ℕ
 job_code code.Later = codes "Later"
 job_code code.J1 = codes "J1"
+job_code code.J4 = codes "J4"
 job_code code.J5 = codes "J5"
 job_code code.J10 = codes "J10"
 job_code code.J11 = codes "J11"
 job_code code.J12 = codes "J12"
+job_code code.J13 = codes "J13"
+job_code code.J14 = codes "J14"
+job_code code.J17 = codes "J17"
 job_code code.J18 = codes "J18"
 
 abbrev pub refused_program : Fault → Answer

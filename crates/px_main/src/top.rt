@@ -63,10 +63,14 @@ fn job_code(code: JobCode) -> &'static [u8]
     match code {
         JobCode::Later => b"Later",
         JobCode::J1 => b"J1",
+        JobCode::J4 => b"J4",
         JobCode::J5 => b"J5",
         JobCode::J10 => b"J10",
         JobCode::J11 => b"J11",
         JobCode::J12 => b"J12",
+        JobCode::J13 => b"J13",
+        JobCode::J14 => b"J14",
+        JobCode::J17 => b"J17",
         JobCode::J18 => b"J18",
     }
 }
