@@ -3,3 +3,4 @@ pub mod Frames
 pub mod Acts
 pub mod Statements
 pub mod Steps
+pub mod StackCrossing

@@ -1,7 +1,13 @@
 //! What two ends together do.
 ghost use Rattle.px_pair.specs.Law.{BlocksRunAlike};
+ghost use Rattle.px_pair.specs.Crossing.{StackCrosses};
 
 /// Where two ends together have one heap and one stack, a block does at the end with control what it does on that heap: the same statements run, with the same reads and writes, and both ends have one heap again. What it reads is the newest value.
 pub fn blocks_run_alike()
     ensures { BlocksRunAlike }
+{}
+
+/// The slots that a message carries make the stack at the other end that of the side with control, where both are alike but for the slots written since control came.
+pub fn stack_crosses()
+    ensures { StackCrosses }
 {}
