@@ -4,3 +4,4 @@ pub mod Acts
 pub mod Statements
 pub mod Steps
 pub mod StackCrossing
+pub mod StackKeeping

@@ -1,6 +1,6 @@
 //! What two ends together do.
 ghost use Rattle.px_pair.specs.Law.{BlocksRunAlike};
-ghost use Rattle.px_pair.specs.Crossing.{StackCrosses};
+ghost use Rattle.px_pair.specs.Crossing.{StackCrosses, StepsKeepStacks};
 
 /// Where two ends together have one heap and one stack, a block does at the end with control what it does on that heap: the same statements run, with the same reads and writes, and both ends have one heap again. What it reads is the newest value.
 pub fn blocks_run_alike()
@@ -10,4 +10,9 @@ pub fn blocks_run_alike()
 /// The slots that a message carries make the stack at the other end that of the side with control, where both are alike but for the slots written since control came.
 pub fn stack_crosses()
     ensures { StackCrosses }
+{}
+
+/// The statements of a block leave both stacks alike, but for the slots that they write: a message after them makes the stack of the side with control again.
+pub fn steps_keep_stacks()
+    ensures { StepsKeepStacks }
 {}
