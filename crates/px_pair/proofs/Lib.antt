@@ -5,3 +5,4 @@ pub mod Statements
 pub mod Steps
 pub mod StackCrossing
 pub mod StackKeeping
+pub mod StackRoom

@@ -1,6 +1,6 @@
 //! What two ends together do.
 ghost use Rattle.px_pair.specs.Law.{BlocksRunAlike};
-ghost use Rattle.px_pair.specs.Crossing.{StackCrosses, StepsKeepStacks};
+ghost use Rattle.px_pair.specs.Crossing.{StackCrosses, SlotsAreThere, StepsKeepStacks};
 
 /// Where two ends together have one heap and one stack, a block does at the end with control what it does on that heap: the same statements run, with the same reads and writes, and both ends have one heap again. What it reads is the newest value.
 pub fn blocks_run_alike()
@@ -15,4 +15,9 @@ pub fn stack_crosses()
 /// The statements of a block leave both stacks alike, but for the slots that they write: a message after them makes the stack of the side with control again.
 pub fn steps_keep_stacks()
     ensures { StepsKeepStacks }
+{}
+
+/// Each slot that a message carries is there at the other end, in a frame that stays or in one that comes.
+pub fn slots_are_there()
+    ensures { SlotsAreThere }
 {}
