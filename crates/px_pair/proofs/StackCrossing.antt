@@ -1,11 +1,11 @@
 -- The stack after a message.
-use Rattle.std.proofs.Common.{◌≡◌, ℕ, zero, suc, ◌+◌, Bool, true, false, List, [], ◌∷◌, ◌++◌, map, length, Option, Some, None, slice_get, slice_set, refl, sym, ap, subst, ◌∙◌, append_assoc}
+use Rattle.std.proofs.Common.{◌≡◌, ℕ, ◌+◌, Bool, true, false, List, [], ◌∷◌, ◌++◌, map, length, Option, Some, slice_get, slice_set, refl, sym, ap, ◌∙◌, append_assoc}
 use Rattle.std.proofs.lemmas.List.{length_push, map-append}
 use Rattle.px_value.specs.declared.value.Value.{Value}
 use Rattle.px_code.specs.declared.frame.Frame.{Frame}
 use Rattle.px_code.specs.declared.frame.Slot.{Slot}
-use Rattle.px_code.specs.declared.plan.Plan.{Plan}
-use Rattle.px_code.specs.Machine.{Machine, with_slot_in, filled, just_written}
+use Rattle.px_code.specs.Slots.{all_settled}
+use Rattle.px_code.specs.Machine.{with_slot_in, filled, just_written}
 use Rattle.px_wire.specs.declared.slot.SlotAt.{SlotAt}
 use Rattle.px_half.specs.Messages.{slot_if, written_from, written_slots}
 use Rattle.px_half.specs.Absorbed.{with_slots, settled_frame}
@@ -101,7 +101,7 @@ frames_told (x ∷ frames) (y ∷ others) f lower here like =
 
 -- ---- settled
 
-settled_values : (slots : List Slot) → map value (settled_frame (record { method = 0; back = 0; slots = slots })).slots ≡ map value slots
+settled_values : (slots : List Slot) → map value (all_settled slots) ≡ map value slots
 settled_values [] = refl
 settled_values (s ∷ slots) = ap (λ (vs : List Value). s.value ∷ vs) (settled_values slots)
 

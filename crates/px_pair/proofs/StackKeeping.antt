@@ -1,5 +1,5 @@
 -- What statements do to a stack that both ends have alike.
-use Rattle.std.proofs.Common.{◌≡◌, ℕ, zero, suc, ◌+◌, ◌-◌, ◌≤◌, min, true, false, List, [], ◌∷◌, ◌++◌, map, take, drop, length, Option, Some, None, Ok, Err, slice_get, slice_set, refl, sym, ap, subst, ◌∙◌, arith}
+use Rattle.std.proofs.Common.{◌≡◌, ℕ, zero, suc, ◌-◌, min, true, false, List, [], ◌∷◌, ◌++◌, map, take, drop, length, Option, Some, None, Ok, Err, slice_get, slice_set, refl, sym, ap, subst, ◌∙◌, arith}
 use Rattle.std.proofs.Math.Nat.{suc-min-suc, zero-min, min-zero}
 use Rattle.std.proofs.lemmas.List.{length-map, length-drop, drop-map}
 use Rattle.px_value.specs.declared.value.Value.{Value}
@@ -12,11 +12,11 @@ use Rattle.px_code.specs.declared.block.Statement.{Statement}
 use Rattle.px_code.specs.declared.plan.Plan.{Plan}
 use Rattle.px_code.specs.Act.{act_of, Acted, acted}
 use Rattle.px_code.specs.CodeRun.{given}
-use Rattle.px_code.specs.Machine.{Machine, top, top_values, with_slot_in, filled, just_written, answered, popped, returned, with_value, after_act, sent, Stop, RunsOn, Returned, Threw, Stepped, step, step_of, step_ends, steps, then_steps}
+use Rattle.px_code.specs.Machine.{Machine, top, top_values, with_slot_in, filled, just_written, answered, popped, with_value, after_act, Stop, RunsOn, Returned, Threw, Stepped, step, step_ends, steps, then_steps}
 use Rattle.px_wire.specs.declared.frame.Frame.{Frame as FrameTold}
 use Rattle.px_half.specs.Messages.{frame_told}
 use Rattle.px_half.specs.Absorbed.{blank_frame}
-use Rattle.px_pair.specs.Crossing.{SlotsLike, FrameLike, FramesLike, bare, StepsKeepStacks}
+use Rattle.px_pair.specs.Crossing.{SlotsLike, FramesLike, bare, StepsKeepStacks}
 
 -- ---- a slot is written
 

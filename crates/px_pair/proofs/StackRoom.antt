@@ -1,5 +1,5 @@
 -- The slots of a message are there.
-use Rattle.std.proofs.Common.{◌≡◌, ℕ, zero, suc, ◌+◌, ◌-◌, ◌≤◌, ◌<◌, Bool, true, false, cond, ◌&&◌, List, [], ◌∷◌, ◌++◌, map, drop, length, Option, Some, None, slice_get, nat_lt, if◌then◌else◌, refl, sym, ap, subst, ◌∙◌, arith}
+use Rattle.std.proofs.Common.{◌≡◌, ℕ, zero, suc, ◌+◌, ◌-◌, ◌≤◌, ◌<◌, Bool, true, false, ◌&&◌, List, [], ◌∷◌, map, drop, length, slice_get, nat_lt, if◌then◌else◌, refl, sym, ap, subst, ◌∙◌, arith}
 use Rattle.std.specs.List.{list_all}
 use Rattle.std.proofs.Math.Nat.{suc-sub-suc}
 use Rattle.std.proofs.lemmas.Bool.{lt-ltb, le-ltb, ltb-true, ltb-false}
@@ -9,13 +9,12 @@ use Rattle.px_value.specs.declared.value.Value.{Value}
 use Rattle.px_code.specs.declared.frame.Frame.{Frame}
 use Rattle.px_code.specs.declared.frame.Slot.{Slot}
 use Rattle.px_code.specs.declared.plan.Plan.{Plan}
-use Rattle.px_code.specs.Machine.{Machine, slots_at}
+use Rattle.px_code.specs.Machine.{slots_at}
 use Rattle.px_wire.specs.declared.frame.Frame.{Frame as FrameTold}
 use Rattle.px_wire.specs.declared.slot.SlotAt.{SlotAt}
-use Rattle.px_wire.specs.declared.transfer.Transfer.{Transfer}
 use Rattle.px_half.specs.Messages.{frame_told, slot_if, written_from, written_slots}
 use Rattle.px_half.specs.Absorbed.{blank_frame, blank_slots, blank_count, slot_count}
-use Rattle.px_pair.specs.Crossing.{SlotsLike, FrameLike, FramesLike, bare, SlotsAreThere}
+use Rattle.px_pair.specs.Crossing.{SlotsLike, FramesLike, SlotsAreThere}
 use Rattle.px_pair.proofs.StackKeeping.{standing, bare_stands, none_missing}
 
 -- ---- slots that are there, by how many a frame has
