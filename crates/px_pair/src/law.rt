@@ -7,17 +7,17 @@ pub fn blocks_run_alike()
     ensures { BlocksRunAlike }
 {}
 
-/// The slots that a message carries make the stack at the other end that of the side with control, where both are alike but for the slots written since control came.
+/// Where both stacks are alike but for the slots written since control came, the slots that a message carries make the stack at the other end that of the side with control.
 pub fn stack_crosses()
     ensures { StackCrosses }
 {}
 
-/// The statements of a block leave both stacks alike, but for the slots that they write: a message after them makes the stack of the side with control again.
-pub fn steps_keep_stacks()
-    ensures { StepsKeepStacks }
-{}
-
-/// Each slot that a message carries is there at the other end, in a frame that stays or in one that comes.
+/// Each of these slots is there at the other end, in a frame that stays or in one that comes.
 pub fn slots_are_there()
     ensures { SlotsAreThere }
+{}
+
+/// The statements of a block leave both stacks alike, but for the slots written since control came.
+pub fn steps_keep_stacks()
+    ensures { StepsKeepStacks }
 {}
