@@ -4,3 +4,6 @@ pub mod Acts
 pub mod Statements
 pub mod Steps
 pub mod HeapCrossing
+pub mod StackCrossing
+pub mod StackKeeping
+pub mod StackRoom
