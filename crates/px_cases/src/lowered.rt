@@ -74,6 +74,9 @@ fn checked(alloc: Global, members: &str) -> Result<Option<Checked>, Fail> {
     source.push_str("class Main { ")?;
     source.push_str(members)?;
     source.push_str(" }")?;
+    if source.len() > 1000 {
+        return Ok(None);
+    }
     let Ok(program) = parse(alloc, source.as_bytes()) else {
         return Ok(None);
     };
