@@ -1,4 +1,4 @@
-use Rattle.std.proofs.Common.{◌+◌, ap, ◌∙◌, sym, arith}
+use Rattle.std.proofs.Common.{◌+◌, arith}
 use Rattle.px_job.proofs.NodesMore.{numbers_more, item_moves}
 use Rattle.px_job.proofs.index.all_nodes.Goals as goal
 
