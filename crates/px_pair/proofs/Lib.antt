@@ -7,3 +7,4 @@ pub mod HeapCrossing
 pub mod StackCrossing
 pub mod StackKeeping
 pub mod StackRoom
+pub mod ControlCrossing

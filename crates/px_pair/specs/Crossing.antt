@@ -1,6 +1,6 @@
 -- Control goes over: what the message of one end leaves at the other.
-use Rattle.std.specs.Prelude.{◌≡◌, ℕ, true, false, List, [], ◌∷◌, ◌++◌, map, take, drop, length, Option, Some, nat_lt}
-use Rattle.std.specs.List.{list_all}
+use Rattle.std.specs.Prelude.{◌≡◌, ℕ, true, false, List, [], ◌∷◌, ◌++◌, map, take, drop, length, Option, Some, nat_lt, nat_le, ◌≤◌}
+use Rattle.std.specs.List.{list_all, AllByRecursion}
 use Rattle.px_value.specs.declared.object.Object.{Object}
 use Rattle.px_code.specs.declared.side.Side.{Side}
 use Rattle.px_code.specs.declared.frame.Frame.{Frame}
@@ -14,7 +14,7 @@ use Rattle.px_wire.specs.declared.slot.SlotAt.{SlotAt}
 use Rattle.px_wire.specs.declared.updates.Updates.{Updates}
 use Rattle.px_wire.specs.declared.transfer.Transfer.{Transfer}
 use Rattle.px_half.specs.Messages.{AreUpdates, frame_told, written_slots}
-use Rattle.px_half.specs.Absorbed.{blank_frame, with_slots, settled_frame, slot_count, with_room, with_cells}
+use Rattle.px_half.specs.Absorbed.{blank_frame, with_slots, settled_frame, slot_count, with_room, with_cells, leads, frame_fits, with_transfer}
 use Rattle.px_pair.specs.Agree.{seen, CopiesAgree, Agree}
 
 -- ---- the stack
@@ -64,3 +64,34 @@ pub record HeapCrossed (plan : Plan) (side : Side) (near far one : Machine) (u :
 -- where both ends know all objects
 abbrev pub HeapCrosses : Type 0
 HeapCrosses = (plan : Plan) (side : Side) (near far one : Machine) (u : Updates) → Agree plan side near far one → Fits plan.code one.heap → AreUpdates (Some plan) (length near.heap) near u → HeapCrossed plan side near far one u
+
+-- ---- control
+
+-- every reference in a slot leads to an object
+abbrev pub SlotsLead : List Object → List Frame → Type 0
+SlotsLead heap frames = AllByRecursion (λ (f : Frame). AllByRecursion (λ (s : Slot). leads heap s.value ≡ true) f.slots) frames
+
+-- the stack of the end with control can be told to the other end
+pub record CanTell (plan : Plan) (near far : Machine) : Type 0 where
+  pub like : FramesLike near.frames (bare plan near far)
+  pub base : near.base ≤ length far.frames
+  pub frames : AllByRecursion (λ (f : Frame). frame_fits plan (frame_told f) ≡ true) near.frames
+  pub lead : SlotsLead near.heap near.frames
+
+-- a message of the end with control, to a block that is there
+pub record Tells (plan : Plan) (near : Machine) (t : Transfer) : Type 0 where
+  pub block : nat_le t.block (length plan.blocks.blocks) ≡ true
+  pub base : t.base ≡ near.base
+  pub frames : t.frames ≡ map frame_told (drop near.base near.frames)
+  pub slots : t.slots ≡ written_slots 0 near.frames
+  pub updates : AreUpdates (Some plan) (length near.heap) near t.updates
+
+-- the other end takes it in, has control, and both have the one heap and the one stack again
+pub record ControlCrossed (plan : Plan) (side : Side) (near far one : Machine) (t : Transfer) : Type 0 where
+  pub machine : Machine
+  pub taken : with_transfer plan t far ≡ Some machine
+  pub agree : Agree plan (other side) machine near one
+  pub can_tell : CanTell plan machine near
+
+abbrev pub ControlCrosses : Type 0
+ControlCrosses = (plan : Plan) (side : Side) (near far one : Machine) (t : Transfer) → Agree plan side near far one → Fits plan.code one.heap → CanTell plan near far → Tells plan near t → ControlCrossed plan side near far one t
