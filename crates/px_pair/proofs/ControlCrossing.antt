@@ -91,7 +91,7 @@ frame_lead : (heap : List Object) (f n : ℕ) (slots : List Slot) (rest : List S
 frame_lead heap f n [] rest h k = k
 frame_lead heap f n (s ∷ slots) rest h k =
     subst (AllByRecursion (λ (s : SlotAt). leads heap s.value ≡ true)) (sym (apart s.written f n s.value (written_from f (n + 1) slots) rest))
-      (if_lead heap s.written f n s.value (written_from f (n + 1) slots ++ rest) h.0 (frame_lead heap f (n + 1) slots rest h.1 k))
+    (if_lead heap s.written f n s.value (written_from f (n + 1) slots ++ rest) h.0 (frame_lead heap f (n + 1) slots rest h.1 k))
 
 slots_lead : (heap : List Object) (f : ℕ) (frames : List Frame) → SlotsLead heap frames → AllByRecursion (λ (s : SlotAt). leads heap s.value ≡ true) (written_slots f frames)
 slots_lead heap f [] h = tt
@@ -152,10 +152,54 @@ lead_seen old new (x ∷ xs) (y ∷ ys) n e h =
 
 -- ---- the whole
 
-module _ (plan : Plan) (side : Side) (near far one : Machine) (t : Transfer) (agree : Agree plan side near far one) (fits : Fits plan.code one.heap) (can : CanTell plan near far) (tells : Tells plan near t) where
+-- what stands of the end that takes the message in, by the stacks alone
+module _ (plan : Plan) (side : Side) (near far one : Machine) (t : Transfer) (agree : Agree plan side near far one) (fits : Fits plan.code one.heap) (like : FramesLike near.frames (bare plan near far)) (tells : Tells plan near t) where
   crossed : HeapCrossed plan side near far one t.updates
   crossed = heaps.heap_crosses plan side near far one t.updates agree fits tells.updates
 
+  abbrev pub new : Machine
+  new = in_control plan t far far.heap
+
+  same_stack : map seen new.frames ≡ map seen near.frames
+  same_stack =
+      ap (λ (ss : List SlotAt). map seen (map settled_frame (with_slots ss (take t.base far.frames ++ map (blank_frame plan) t.frames)))) tells.slots
+      ∙ ap (λ (n : ℕ). map seen (map settled_frame (with_slots (written_slots 0 near.frames) (take n far.frames ++ map (blank_frame plan) t.frames)))) tells.base
+      ∙ ap (λ (fs : List FrameTold). map seen (map settled_frame (with_slots (written_slots 0 near.frames) (take near.base far.frames ++ map (blank_frame plan) fs)))) tells.frames
+      ∙ stacks.stack_crosses plan near far like
+
+  new_length : length new.frames ≡ length near.frames
+  new_length = seen_length new.frames near.frames same_stack
+
+  bare_is : bare plan new near ≡ near.frames
+  bare_is = ap (λ (fs : List Frame). fs ++ map (blank_frame plan) (map frame_told (drop new.base new.frames))) (take_all near.frames new.base new_length)
+      ∙ ap (λ (fs : List Frame). near.frames ++ map (blank_frame plan) (map frame_told fs)) (drop_all new.frames) ∙ append-nil near.frames
+
+  pub new_like : FramesLike new.frames (bare plan new near)
+  new_like = subst (FramesLike new.frames) (sym bare_is) (frames_alike new.frames near.frames same_stack)
+
+  pub new_agree : Agree plan (other side) new near one
+  new_agree = record {
+    frames = same_stack ∙ agree.frames;
+    near_headers = crossed.headers;
+    far_headers = agree.near_headers;
+    copies = λ o i. let c = crossed.copies o i in record { near_there = c.near_there; far_there = c.far_there; kept = c.kept; written = c.written; far_kept = c.far_kept };
+    named = λ o i h kept. cc;
+  }
+
+  after_room : (b : Bool) (x : Machine) → (if b then Some new else None) ≡ Some x → x ≡ new
+  after_room true x h = cc
+  after_room false x h = cc
+
+  after_stack : (b : Bool) (x : Machine) → (if b then option_and_then (transferred plan t far) (with_room plan t.updates far.heap) else None) ≡ Some x → x ≡ new
+  after_stack true x h = after_room (slots_fit plan t far.frames far.heap) x (sym (ap (option_and_then (transferred plan t far)) crossed.room) ∙ h)
+  after_stack false x h = cc
+
+  -- whatever machine the message leaves is this one
+  pub taken_is : (x : Machine) → with_transfer plan t far ≡ Some x → x ≡ new
+  taken_is x h = after_stack (stack_fits plan t far.frames) x h
+
+-- and where the stack can be told, the message is taken in
+module _ (plan : Plan) (side : Side) (near far one : Machine) (t : Transfer) (agree : Agree plan side near far one) (fits : Fits plan.code one.heap) (can : CanTell plan near far) (tells : Tells plan near t) where
   heaps_long : length near.heap ≡ length far.heap
   heaps_long = same_length near.heap far.heap (λ o. agree.near_headers o ∙ sym (agree.far_headers o))
 
@@ -174,52 +218,32 @@ module _ (plan : Plan) (side : Side) (near far one : Machine) (t : Transfer) (ag
   slots_there : slots_fit plan t far.frames far.heap ≡ true
   slots_there = ap (list_all (slot_fits plan t far.frames far.heap)) tells.slots
       ∙ all_both (λ (s : SlotAt). nat_lt s.slot (slot_count plan t far.frames s.frame)) (λ (s : SlotAt). leads far.heap s.value) (written_slots 0 near.frames)
-          (room.slots_are_there plan near far t tells.base tells.frames can.like) (all_lead (written_slots 0 near.frames) (slots_lead near.heap 0 near.frames can.lead))
+      (room.slots_are_there plan near far t tells.base tells.frames can.like) (all_lead (written_slots 0 near.frames) (slots_lead near.heap 0 near.frames can.lead))
 
-  abbrev new : Machine
-  new = in_control plan t far far.heap
+  abbrev there : Machine
+  there = in_control plan t far far.heap
 
-  taken : with_transfer plan t far ≡ Some new
+  taken : with_transfer plan t far ≡ Some there
   taken =
       ap (λ b. if b then option_and_then (transferred plan t far) (with_room plan t.updates far.heap) else None) stack_there
-      ∙ ap (option_and_then (transferred plan t far)) crossed.room
-      ∙ ap (λ b. if b then Some new else None) slots_there
+      ∙ ap (option_and_then (transferred plan t far)) (crossed plan side near far one t agree fits can.like tells).room
+      ∙ ap (λ b. if b then Some there else None) slots_there
 
-  same_stack : map seen new.frames ≡ map seen near.frames
-  same_stack =
-      ap (λ (ss : List SlotAt). map seen (map settled_frame (with_slots ss (take t.base far.frames ++ map (blank_frame plan) t.frames)))) tells.slots
-      ∙ ap (λ (n : ℕ). map seen (map settled_frame (with_slots (written_slots 0 near.frames) (take n far.frames ++ map (blank_frame plan) t.frames)))) tells.base
-      ∙ ap (λ (fs : List FrameTold). map seen (map settled_frame (with_slots (written_slots 0 near.frames) (take near.base far.frames ++ map (blank_frame plan) fs)))) tells.frames
-      ∙ stacks.stack_crosses plan near far can.like
+  stack : map seen there.frames ≡ map seen near.frames
+  stack = same_stack plan side near far one t agree fits can.like tells
 
-  new_length : length new.frames ≡ length near.frames
-  new_length = seen_length new.frames near.frames same_stack
-
-  bare_is : bare plan new near ≡ near.frames
-  bare_is = ap (λ (fs : List Frame). fs ++ map (blank_frame plan) (map frame_told (drop new.base new.frames))) (take_all near.frames new.base new_length)
-      ∙ ap (λ (fs : List Frame). near.frames ++ map (blank_frame plan) (map frame_told fs)) (drop_all new.frames) ∙ append-nil near.frames
-
-  new_agree : Agree plan (other side) new near one
-  new_agree = record {
-    frames = same_stack ∙ agree.frames;
-    near_headers = crossed.headers;
-    far_headers = agree.near_headers;
-    copies = λ o i. let c = crossed.copies o i in record { near_there = c.near_there; far_there = c.far_there; kept = c.kept; written = c.written; far_kept = c.far_kept };
-    named = λ o i h kept. cc;
-  }
-
-  new_can : CanTell plan new near
+  new_can : CanTell plan there near
   new_can = record {
-    like = subst (FramesLike new.frames) (sym bare_is) (frames_alike new.frames near.frames same_stack);
-    base = omega (arith, new_length);
-    frames = fit_seen plan new.frames near.frames same_stack can.frames;
-    lead = lead_seen near.heap new.heap new.frames near.frames (same_length new.heap near.heap (λ o. crossed.headers o ∙ sym (agree.near_headers o))) same_stack can.lead;
+    like = new_like plan side near far one t agree fits can.like tells;
+    base = omega (arith, seen_length there.frames near.frames stack);
+    frames = fit_seen plan there.frames near.frames stack can.frames;
+    lead = lead_seen near.heap there.heap there.frames near.frames (same_length there.heap near.heap (λ o. (crossed plan side near far one t agree fits can.like tells).headers o ∙ sym (agree.near_headers o))) stack can.lead;
   }
 
 pub control_crosses : ControlCrosses
 control_crosses plan side near far one t agree fits can tells = record {
-  machine = new plan side near far one t agree fits can tells;
+  machine = in_control plan t far far.heap;
   taken = taken plan side near far one t agree fits can tells;
-  agree = new_agree plan side near far one t agree fits can tells;
+  agree = new_agree plan side near far one t agree fits can.like tells;
   can_tell = new_can plan side near far one t agree fits can tells;
 }

@@ -8,3 +8,4 @@ pub mod StackCrossing
 pub mod StackKeeping
 pub mod StackRoom
 pub mod ControlCrossing
+pub mod Calls

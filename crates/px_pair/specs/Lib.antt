@@ -1,3 +1,4 @@
 pub mod Agree
 pub mod Law
 pub mod Crossing
+pub mod Calls
