@@ -4,3 +4,5 @@ pub mod Telling
 pub mod NewObjects
 pub mod CarryOrder
 pub mod CarryWhole
+pub mod Tellable
+pub mod TellableEnds

@@ -4,3 +4,4 @@ pub mod End
 pub mod Messages
 pub mod Absorbed
 pub mod Carry
+pub mod Law

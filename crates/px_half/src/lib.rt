@@ -8,6 +8,7 @@ mod entering;
 mod first_heap;
 mod half;
 mod home;
+pub mod law;
 mod machine;
 mod news;
 mod next;
