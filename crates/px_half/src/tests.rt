@@ -461,33 +461,68 @@ fn are_those_of_f(messages: &[Vec<u8>]) -> bool {
     }
 }
 
+fn comes_to(rt: &impl Abort, alloc: Global, half: &mut Half, step: Step) -> Result<(), AllocError> {
+    assert_eq!(rt; run_one(rt, alloc, half)?, step);
+    Ok(())
+}
+
+fn tells(
+    rt: &impl Abort,
+    alloc: Global,
+    from: &mut Half,
+    to: &mut Half,
+    bytes: &[u8],
+) -> Result<(), AbsorbError> {
+    let told = tell(rt, alloc, from)?;
+    assert_eq!(rt; told.as_slice(), bytes);
+    to.absorb(alloc, told.as_slice())
+}
+
+fn goes_there(
+    rt: &impl Abort,
+    alloc: Global,
+    app: &mut Half,
+    db: &mut Half,
+) -> Result<(), AbsorbError> {
+    comes_to(rt, alloc, app, Step::Cross)?;
+    // Both have nothing to run now.
+    comes_to(rt, alloc, app, Step::Cross)?;
+    comes_to(rt, alloc, db, Step::Cross)?;
+    tells(rt, alloc, app, db, &THERE)
+}
+
+fn comes_back(
+    rt: &impl Abort,
+    alloc: Global,
+    app: &mut Half,
+    db: &mut Half,
+) -> Result<(), AbsorbError> {
+    comes_to(rt, alloc, db, Step::Cross)?;
+    tells(rt, alloc, db, app, &BACK)?;
+    comes_to(rt, alloc, app, Step::Next)?;
+    Ok(comes_to(rt, alloc, app, Step::Done)?)
+}
+
+fn commits(
+    rt: &impl Abort,
+    alloc: Global,
+    app: &mut Half,
+    db: &mut Half,
+) -> Result<(), AbsorbError> {
+    let shown = app.shown(alloc)?;
+    assert!(rt; gives(&shown.reply, 2));
+    tells(rt, alloc, app, db, &COMMIT)
+}
+
 #[test]
 fn a_call_goes_to_the_other_end_and_back(rt: HostRuntime) -> Result<(), Fail> {
     let alloc = rt.alloc();
     let mut ends = new_ends(&rt, alloc)?;
     open(&rt, alloc, &mut ends, 1, &[])?;
     let Ends { mut app, mut db } = ends;
-
-    assert_eq!(rt; run_one(&rt, alloc, &mut app)?, Step::Cross);
-    assert_eq!(rt; run_one(&rt, alloc, &mut app)?, Step::Cross);
-    let there = tell(&rt, alloc, &mut app)?;
-    assert_eq!(rt; there.as_slice(), THERE.as_slice());
-
-    assert_eq!(rt; run_one(&rt, alloc, &mut db)?, Step::Cross);
-    db.absorb(alloc, there.as_slice())?;
-    assert_eq!(rt; run_one(&rt, alloc, &mut db)?, Step::Cross);
-    let back = tell(&rt, alloc, &mut db)?;
-    assert_eq!(rt; back.as_slice(), BACK.as_slice());
-
-    app.absorb(alloc, back.as_slice())?;
-    assert_eq!(rt; run_one(&rt, alloc, &mut app)?, Step::Next);
-    assert_eq!(rt; run_one(&rt, alloc, &mut app)?, Step::Done);
-    let shown = app.shown(alloc)?;
-    assert!(rt; gives(&shown.reply, 2));
-    let commit = tell(&rt, alloc, &mut app)?;
-    assert_eq!(rt; commit.as_slice(), COMMIT.as_slice());
-
-    db.absorb(alloc, commit.as_slice())?;
+    goes_there(&rt, alloc, &mut app, &mut db)?;
+    comes_back(&rt, alloc, &mut app, &mut db)?;
+    commits(&rt, alloc, &mut app, &mut db)?;
     app.close();
     db.close();
     assert!(rt; has(&app, 1, 2));
