@@ -177,9 +177,10 @@ impl Half {
         ensures err { OnErr result (self.new ≡ self.old) }
     {
         let bytes = encode(alloc, &self.message(alloc)?)?;
-        self.machine.marks.clear();
-        self.machine.named.clear();
-        self.known = self.machine.heap.len();
+        let machine = &mut self.machine;
+        machine.marks.clear();
+        machine.named.clear();
+        self.known = machine.heap.len();
         Ok(bytes)
     }
 
