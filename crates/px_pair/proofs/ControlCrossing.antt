@@ -26,7 +26,7 @@ use Rattle.px_pair.proofs.StackRoom as room
 
 -- ---- heaps of the same headers
 
-same_length : (xs ys : List Object) → ((o : ℕ) → header_at xs o ≡ header_at ys o) → length xs ≡ length ys
+pub same_length : (xs ys : List Object) → ((o : ℕ) → header_at xs o ≡ header_at ys o) → length xs ≡ length ys
 same_length [] [] h = refl
 same_length [] (y ∷ ys) h = let e = h 0 in cc
 same_length (x ∷ xs) [] h = let e = h 0 in cc
@@ -142,7 +142,7 @@ values_lead old new (s ∷ ss) (t ∷ ts) n e h =
     let tail : map (λ (s : Slot). s.value) ss ≡ map (λ (s : Slot). s.value) ts = cc in
     (ap (leads new) head ∙ leads_same new old t.value n ∙ h.0, values_lead old new ss ts n tail h.1)
 
-lead_seen : (old new : List Object) (xs ys : List Frame) → length new ≡ length old → map seen xs ≡ map seen ys → SlotsLead old ys → SlotsLead new xs
+pub lead_seen : (old new : List Object) (xs ys : List Frame) → length new ≡ length old → map seen xs ≡ map seen ys → SlotsLead old ys → SlotsLead new xs
 lead_seen old new [] ys n e h = tt
 lead_seen old new (x ∷ xs) [] n e h = cc
 lead_seen old new (x ∷ xs) (y ∷ ys) n e h =

@@ -9,3 +9,5 @@ pub mod StackKeeping
 pub mod StackRoom
 pub mod ControlCrossing
 pub mod Calls
+pub mod Leading
+pub mod Telling

@@ -5,10 +5,15 @@ use Rattle.px_value.specs.declared.object.Object.{Object}
 use Rattle.px_code.specs.declared.side.Side.{Side}
 use Rattle.px_code.specs.declared.frame.Frame.{Frame}
 use Rattle.px_code.specs.declared.frame.Slot.{Slot}
+use Rattle.px_code.specs.declared.word.Word.{Word}
+use Rattle.px_code.specs.declared.word.Word.TheVariants as w
+use Rattle.px_code.specs.declared.block.Block.{Block}
 use Rattle.px_code.specs.declared.block.Statement.{Statement}
 use Rattle.px_code.specs.declared.plan.Plan.{Plan}
 use Rattle.px_code.specs.Places.{other}
 use Rattle.px_code.specs.Fits.{Fits, header_at}
+use Rattle.px_code.specs.Cut.{IsPlaced}
+use Rattle.px_code.specs.Law.{IsNoLiteralReference, NoLiteralReference, AreStatements, MachineFits}
 use Rattle.px_code.specs.Machine.{Machine, steps}
 use Rattle.px_wire.specs.declared.slot.SlotAt.{SlotAt}
 use Rattle.px_wire.specs.declared.updates.Updates.{Updates}
@@ -16,6 +21,7 @@ use Rattle.px_wire.specs.declared.transfer.Transfer.{Transfer}
 use Rattle.px_half.specs.Messages.{AreUpdates, frame_told, written_slots}
 use Rattle.px_half.specs.Absorbed.{blank_frame, with_slots, settled_frame, slot_count, with_room, with_cells, leads, frame_fits, with_transfer}
 use Rattle.px_pair.specs.Agree.{seen, CopiesAgree, Agree}
+use Rattle.px_pair.specs.Law.{NamesClasses}
 
 -- ---- the stack
 
@@ -95,3 +101,17 @@ pub record ControlCrossed (plan : Plan) (side : Side) (near far one : Machine) (
 
 abbrev pub ControlCrosses : Type 0
 ControlCrosses = (plan : Plan) (side : Side) (near far one : Machine) (t : Transfer) → Agree plan side near far one → Fits plan.code one.heap → CanTell plan near far → Tells plan near t → ControlCrossed plan side near far one t
+
+-- ---- what can be told stays so
+
+-- no literal reference is returned
+abbrev pub ReturnsNoLiteral : Word → Type 0
+ReturnsNoLiteral (w.Return (Some a)) = IsNoLiteralReference a
+ReturnsNoLiteral word = Unit {0}
+
+abbrev pub ReturnNoLiterals : List Statement → Type 0
+ReturnNoLiterals statements = AllByRecursion (λ (s : Statement). ReturnsNoLiteral s.word) statements
+
+-- The statements of a block leave an end whose stack can be told. On the one heap, whose stack is the same, every reference leads to an object.
+abbrev pub StepsCanTell : Type 0
+StepsCanTell = (plan : Plan) (b : Block) (near far one : Machine) → NamesClasses plan.code → AllByRecursion (IsPlaced plan.code plan.placement.sides b) b.statements → AreStatements plan.code b.method b.statements → NoLiteralReference b.statements → ReturnNoLiterals b.statements → MachineFits plan.code b.method one → Agree plan b.side near far one → CanTell plan near far → CanTell plan (steps b.statements near).machine far

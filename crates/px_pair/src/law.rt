@@ -1,6 +1,6 @@
 //! What two ends together do.
 ghost use Rattle.px_pair.specs.Law.{BlocksRunAlike};
-ghost use Rattle.px_pair.specs.Crossing.{StepsKeepStacks, ControlCrosses};
+ghost use Rattle.px_pair.specs.Crossing.{StepsKeepStacks, StepsCanTell, ControlCrosses};
 ghost use Rattle.px_pair.specs.Calls.{CallsAgree};
 
 /// Where two ends together have one heap and one stack, a block does at the end with control what it does on that heap: the same statements run, with the same reads and writes, and both ends have one heap again. What it reads is the newest value.
@@ -11,6 +11,11 @@ pub fn blocks_run_alike()
 /// The statements of a block leave both stacks alike, but for the slots written since control came.
 pub fn steps_keep_stacks()
     ensures { StepsKeepStacks }
+{}
+
+/// The statements of a block leave an end whose stack can be told to the other end.
+pub fn steps_can_tell()
+    ensures { StepsCanTell }
 {}
 
 /// Control goes over, where both ends know all objects: the message of the end with control is taken in by the other end, which then has the same stack and the newest value of each cell that it keeps, and both have the one heap.
