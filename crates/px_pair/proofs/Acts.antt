@@ -4,9 +4,7 @@ use Rattle.std.specs.List.{AllByRecursion}
 use Rattle.px_value.specs.declared.value.Value.{Value}
 use Rattle.px_value.specs.declared.value.Value.TheVariants.{Null}
 use Rattle.px_value.specs.declared.object.Object.{Object}
-use Rattle.px_value.specs.declared.header.Header.{Header}
 use Rattle.px_value.specs.Heap.{cell_at, written}
-use Rattle.px_value.specs.Operators.{Applied}
 use Rattle.px_code.specs.declared.side.Side.{Side}
 use Rattle.px_code.specs.declared.cell.Cell.{Cell}
 use Rattle.px_code.specs.declared.plan.Plan.{Plan}

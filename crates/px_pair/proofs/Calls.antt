@@ -1,23 +1,20 @@
 -- A whole call at two ends is one on the one heap.
-use Rattle.std.proofs.Common.{◌≡◌, ℕ, zero, suc, List, [], ◌++◌, Option, Some, None, refl, sym, ap, subst, ◌∙◌}
-use Rattle.px_value.specs.declared.thrown.Thrown.{Thrown}
+use Rattle.std.proofs.Common.{◌≡◌, ℕ, List, ◌++◌, Some, refl, sym, subst, ◌∙◌}
 use Rattle.px_code.specs.declared.side.Side.{Side}
 use Rattle.px_code.specs.declared.block.Block.{Block}
-use Rattle.px_code.specs.declared.block.Exit.{Exit}
 use Rattle.px_code.specs.declared.plan.Plan.{Plan}
 use Rattle.px_code.specs.Places.{other}
 use Rattle.px_code.specs.Fits.{Fits}
 use Rattle.px_code.specs.CodeRun.{Ran}
 use Rattle.px_code.specs.Law.{MachineFits, StaysWithin}
-use Rattle.px_code.specs.Machine.{Machine, Stop, RunsOn, Returned, Threw, steps, block_at, next_block, exit_to}
+use Rattle.px_code.specs.Machine.{Machine, Stop, RunsOn, Returned, Threw, steps, block_at, next_block}
 use Rattle.px_code.specs.Sound.{Ending, RunsFrom}
 use Rattle.px_code.specs.Sound as sound
 use Rattle.px_code.proofs.Staying.{stay}
-use Rattle.px_wire.specs.declared.transfer.Transfer.{Transfer}
-use Rattle.px_half.specs.Absorbed.{with_transfer, in_control}
+use Rattle.px_half.specs.Absorbed.{in_control}
 use Rattle.px_pair.specs.Agree.{Agree}
 use Rattle.px_pair.specs.Law.{NamesClasses, RunsAlike}
-use Rattle.px_pair.specs.Crossing.{FramesLike, bare, Tells}
+use Rattle.px_pair.specs.Crossing.{FramesLike, bare}
 use Rattle.px_pair.specs.Calls.{RunsAtBoth, finished, runs, falls, crosses, IsGoodBlock, AreGoodBlocks, CallAgrees, CallsAgree}
 use Rattle.px_pair.proofs.Steps.{blocks_run_alike}
 use Rattle.px_pair.proofs.StackKeeping as keeping
@@ -28,7 +25,7 @@ module _ (plan : Plan) (names : NamesClasses plan.code) (good : AreGoodBlocks pl
   blocks = plan.blocks.blocks
 
   -- the machine fits the block that comes next
-  next_fits : (b : Block) (is_good : IsGoodBlock plan b) (one after : Machine) (stop : Stop) → (stop ≡ RunsOn → MachineFits plan.code b.method after) → (c : Block) → block_at blocks (next_block b.exit stop) ≡ Some c → MachineFits plan.code c.method after
+  pub next_fits : (b : Block) (is_good : IsGoodBlock plan b) (one after : Machine) (stop : Stop) → (stop ≡ RunsOn → MachineFits plan.code b.method after) → (c : Block) → block_at blocks (next_block b.exit stop) ≡ Some c → MachineFits plan.code c.method after
   next_fits b is_good one after RunsOn fits c is = subst (λ m. MachineFits plan.code m after) (sym (is_good.next c is)) (fits refl)
   next_fits b is_good one after Returned fits c is = cc
   next_fits b is_good one after (Threw t) fits c is = cc

@@ -1,11 +1,10 @@
 -- Control goes over whole: the other end takes the message in, and both have one heap and one stack again.
-use Rattle.std.proofs.Common.{◌≡◌, ℕ, zero, suc, ◌+◌, ◌≤◌, Bool, true, false, ◌&&◌, List, [], ◌∷◌, ◌++◌, map, take, drop, length, Option, Some, None, nat_lt, nat_le, refl, sym, ap, subst, ◌∙◌, append-nil, arith, le-leb, if◌then◌else◌}
+use Rattle.std.proofs.Common.{◌≡◌, ℕ, zero, suc, ◌+◌, Bool, true, false, ◌&&◌, List, [], ◌∷◌, ◌++◌, map, take, drop, length, Some, None, nat_lt, nat_le, refl, sym, ap, subst, ◌∙◌, append-nil, arith, le-leb, if◌then◌else◌}
 use Rattle.std.specs.List.{AllByRecursion, list_all}
 use Rattle.std.specs.Option.{option_and_then}
 use Rattle.px_value.specs.declared.value.Value.{Value}
 use Rattle.px_value.specs.declared.value.Value.TheVariants as v
 use Rattle.px_value.specs.declared.object.Object.{Object}
-use Rattle.px_value.specs.declared.header.Header.{Header}
 use Rattle.px_code.specs.declared.side.Side.{Side}
 use Rattle.px_code.specs.declared.frame.Frame.{Frame}
 use Rattle.px_code.specs.declared.frame.Slot.{Slot}
@@ -17,9 +16,9 @@ use Rattle.px_wire.specs.declared.frame.Frame.{Frame as FrameTold}
 use Rattle.px_wire.specs.declared.slot.SlotAt.{SlotAt}
 use Rattle.px_wire.specs.declared.transfer.Transfer.{Transfer}
 use Rattle.px_half.specs.Messages.{frame_told, slot_if, written_from, written_slots}
-use Rattle.px_half.specs.Absorbed.{leads, frame_fits, stack_fits, slot_count, slot_fits, slots_fit, with_frames, with_room, with_transfer, transferred, in_control, with_cells, blank_frame, with_slots, settled_frame}
+use Rattle.px_half.specs.Absorbed.{leads, frame_fits, stack_fits, slot_count, slot_fits, slots_fit, with_room, with_transfer, transferred, in_control, blank_frame, with_slots, settled_frame}
 use Rattle.px_pair.specs.Agree.{Seen, seen, Agree}
-use Rattle.px_pair.specs.Crossing.{SlotsLike, FrameLike, FramesLike, bare, SlotsLead, CanTell, Tells, HeapCrossed, ControlCrossed, ControlCrosses}
+use Rattle.px_pair.specs.Crossing.{SlotsLike, FramesLike, bare, SlotsLead, CanTell, Tells, HeapCrossed, ControlCrosses}
 use Rattle.px_pair.proofs.HeapCrossing as heaps
 use Rattle.px_pair.proofs.StackCrossing as stacks
 use Rattle.px_pair.proofs.StackRoom as room

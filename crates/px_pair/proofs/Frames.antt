@@ -6,7 +6,6 @@ use Rattle.px_value.specs.declared.value.Value.{Value}
 use Rattle.px_value.specs.declared.value.Value.TheVariants.{Null}
 use Rattle.px_code.specs.declared.frame.Frame.{Frame}
 use Rattle.px_code.specs.declared.frame.Slot.{Slot}
-use Rattle.px_code.specs.Act.{Slots}
 use Rattle.px_code.specs.Machine.{slot_value, slots_in, slots_at, value_in, top_values, with_slot_in, filled, filled_if, just_written, top, answered}
 use Rattle.px_pair.specs.Agree.{Seen, seen}
 

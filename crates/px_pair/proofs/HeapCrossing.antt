@@ -55,7 +55,7 @@ is_below (x ∷ heap) (suc o) h e = let below = is_below heap o h e in omega (ar
 -- ---- cells that are written into a heap
 
 -- one of these cells is the one at this place
-abbrev has_cell : List CellAt → ℕ → ℕ → Bool
+abbrev pub has_cell : List CellAt → ℕ → ℕ → Bool
 has_cell [] o i = false
 has_cell (c ∷ cells) o i = at_cell c.object c.index o i || has_cell cells o i
 
@@ -65,7 +65,7 @@ found_at c cells x later zero l e =
     (and_from (c.object == x.object) (c.index == x.index) (eq-eqb c.object x.object (ap (λ (y : CellAt). y.object) e)) (eq-eqb c.index x.index (ap (λ (y : CellAt). y.index) e)))
 found_at c cells x later (suc k) l e = or_later (at_cell c.object c.index x.object x.index) (has_cell cells x.object x.index) (later (k, omega (arith, l), e))
 
-has_found : (cells : List CellAt) (x : CellAt) → Contains cells x → has_cell cells x.object x.index ≡ true
+pub has_found : (cells : List CellAt) (x : CellAt) → Contains cells x → has_cell cells x.object x.index ≡ true
 has_found [] x h = absurd (let l = h.1 in omega (arith, l))
 has_found (c ∷ cells) x h = found_at c cells x (has_found cells x) h.0 h.1 h.2
 

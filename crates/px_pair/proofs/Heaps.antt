@@ -1,9 +1,9 @@
 -- What a heap holds after a write.
-use Rattle.std.proofs.Common.{◌≡◌, ℕ, zero, suc, Bool, true, false, cond, ◌==◌, ◌&&◌, ◌||◌, List, [], ◌∷◌, ◌++◌, Option, Some, None, is_some, slice_get, slice_set, refl, sym, ap, ◌∙◌, nat_eq}
+use Rattle.std.proofs.Common.{◌≡◌, ℕ, zero, suc, Bool, true, false, cond, ◌==◌, ◌&&◌, ◌||◌, List, [], ◌∷◌, ◌++◌, Option, Some, None, slice_get, slice_set, refl, sym, ap, ◌∙◌}
 use Rattle.std.proofs.lemmas.Bool.Decides.{same_from_decides, Decides-eqb}
 use Rattle.px_value.specs.declared.value.Value.{Value}
 use Rattle.px_value.specs.declared.object.Object.{Object}
-use Rattle.px_value.specs.Heap.{cell_at, cell_of, written, with_cell}
+use Rattle.px_value.specs.Heap.{cell_at, written, with_cell}
 use Rattle.px_code.specs.declared.cell.Cell.{Cell}
 use Rattle.px_code.specs.Fits.{header_at}
 use Rattle.px_half.specs.Messages.{is_marked}
@@ -28,6 +28,9 @@ same_refl (suc m) = same_refl m
 
 pub same_is : (m n : ℕ) → (m == n) ≡ same m n
 same_is m n = same_from_decides (m == n) (same m n) (Decides-eqb m n) (same_true m n, λ e. ap (same m) (sym e) ∙ same_refl m)
+
+pub eq_self : (n : ℕ) → (n == n) ≡ true
+eq_self n = same_is n n ∙ same_refl n
 
 -- ---- a write
 

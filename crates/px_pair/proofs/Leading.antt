@@ -1,11 +1,11 @@
 -- Every reference in a slot leads to an object, after each statement.
-use Rattle.std.proofs.Common.{◌≡◌, ℕ, zero, suc, ◌-◌, ◌<◌, ◌≤◌, min, Bool, true, false, List, [], ◌∷◌, map, take, length, Option, Some, None, unwrap_or, Ok, Err, nat_lt, slice_get, slice_set, refl, sym, ap, subst, ◌∙◌, arith, lt-ltb}
+use Rattle.std.proofs.Common.{◌≡◌, ℕ, zero, suc, ◌-◌, ◌<◌, ◌≤◌, true, List, [], ◌∷◌, take, length, Option, Some, None, unwrap_or, Ok, Err, nat_lt, slice_get, slice_set, refl, sym, ap, subst, ◌∙◌, arith, lt-ltb}
 use Rattle.std.specs.List.{AllByRecursion}
 use Rattle.px_value.specs.declared.value.Value.{Value}
 use Rattle.px_value.specs.declared.value.Value.TheVariants as v
 use Rattle.px_value.specs.declared.object.Object.{Object}
 use Rattle.px_value.specs.declared.header.Header.{Header}
-use Rattle.px_value.specs.Heap.{cell_at, cell_of, header_of, written}
+use Rattle.px_value.specs.Heap.{cell_of, header_of}
 use Rattle.px_value.specs.Operators.{Applied, apply}
 use Rattle.px_code.specs.declared.word.Operand.{Operand}
 use Rattle.px_code.specs.declared.word.Operand.TheVariants.{Slot as InFrame, Literal}
@@ -15,12 +15,12 @@ use Rattle.px_code.specs.declared.frame.Frame.{Frame}
 use Rattle.px_code.specs.declared.frame.Slot.{Slot}
 use Rattle.px_code.specs.declared.block.Statement.{Statement}
 use Rattle.px_code.specs.declared.code.Code.{Code}
-use Rattle.px_code.specs.Fits.{Fits, Leads, header_at}
-use Rattle.px_code.specs.Act.{Slots, operand, operand_or, act_of, slot_of, at_object, Reads, Writes, comes, Acted, acted, value_at}
+use Rattle.px_code.specs.Fits.{Fits, header_at}
+use Rattle.px_code.specs.Act.{Slots, operand, operand_or, act_of, at_object, Reads, Writes, comes, Acted, acted, value_at}
 use Rattle.px_code.specs.CodeRun.{given}
 use Rattle.px_code.specs.Sound.{IsNoReference}
 use Rattle.px_code.specs.Law.{IsNoLiteralReference, HasNoReference, NoLiteralReference, AreStatements, MachineFits}
-use Rattle.px_code.specs.Machine.{Machine, slots_at, value_in, top, top_values, just_written, with_slot_in, filled, filled_if, answered, after_act, with_value, sent, Stop, RunsOn, Returned, Threw, Stepped, step, step_ends, steps, then_steps}
+use Rattle.px_code.specs.Machine.{Machine, slots_at, value_in, top, top_values, just_written, with_slot_in, filled, answered, after_act, with_value, Stop, RunsOn, Returned, Threw, Stepped, step, step_ends, steps, then_steps}
 use Rattle.px_code.proofs.Staying.{apply_plain, GivesNoReference, step_stays}
 use Rattle.px_half.specs.Absorbed.{leads}
 use Rattle.px_code.specs.Points.{HasStatement}

@@ -11,3 +11,6 @@ pub mod ControlCrossing
 pub mod Calls
 pub mod Leading
 pub mod Telling
+pub mod Sessions
+pub mod Fresh
+pub mod FreshCalls

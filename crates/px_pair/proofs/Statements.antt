@@ -1,5 +1,5 @@
 -- A statement does the same at the end with control as on the one heap.
-use Rattle.std.proofs.Common.{◌≡◌, ℕ, Bool, true, false, ◌==◌, ◌&&◌, ◌||◌, List, [], ◌∷◌, ◌++◌, map, take, Option, Some, None, Ok, Err, slice_get, refl, sym, ap, subst, ◌∙◌, append-nil, eqb-true}
+use Rattle.std.proofs.Common.{◌≡◌, ℕ, Bool, true, false, ◌==◌, ◌&&◌, ◌||◌, List, [], ◌∷◌, ◌++◌, Option, Some, None, Err, slice_get, refl, sym, ap, subst, ◌∙◌, eqb-true}
 use Rattle.std.specs.List.{AllByRecursion}
 use Rattle.px_value.specs.declared.value.Value.{Value}
 use Rattle.px_value.specs.declared.value.Value.TheVariants as v
@@ -8,7 +8,6 @@ use Rattle.px_value.specs.declared.object.Object.{Object}
 use Rattle.px_value.specs.declared.header.Header.{Header}
 use Rattle.px_value.specs.declared.header.Kind.{Kind}
 use Rattle.px_value.specs.declared.header.Kind.TheVariants as kind
-use Rattle.px_value.specs.Operators.{Applied}
 use Rattle.px_code.specs.declared.side.Side.{Side}
 use Rattle.px_code.specs.declared.side.Side.TheVariants.{App, Db}
 use Rattle.px_code.specs.declared.cell.Cell.{Cell}
@@ -18,29 +17,24 @@ use Rattle.px_code.specs.declared.word.Operand.{Operand}
 use Rattle.px_code.specs.declared.word.Operand.TheVariants.{Slot as InFrame, Literal}
 use Rattle.px_code.specs.declared.word.Word.{Word}
 use Rattle.px_code.specs.declared.word.Word.TheVariants as w
-use Rattle.px_code.specs.declared.frame.Frame.{Frame}
 use Rattle.px_code.specs.declared.block.Send.{Send}
 use Rattle.px_code.specs.declared.block.Naming.{Naming}
-use Rattle.px_code.specs.declared.block.Statement.{Statement}
 use Rattle.px_code.specs.declared.code.Code.{Code}
 use Rattle.px_code.specs.declared.plan.Plan.{Plan}
-use Rattle.px_code.specs.Places.{other, side_of, same_side, home_in, home_by, node_by, field_node, site_kind, part_by}
-use Rattle.px_code.specs.Points.{HasStatement, PointsTo, InSlot, ReadsPart, WritesPart, get, put}
-use Rattle.px_code.specs.Sends.{Keeps, read_there, NeedsSend, IsSendOf, IsRightSend}
-use Rattle.px_code.specs.Fits.{header_at, Leads, Fits, IsMade, IsShaped}
-use Rattle.px_code.specs.Act.{Slots, operand, act_of, slot_of, Act, Comes, Reads, Writes, comes, at_object, Acted, acted}
-use Rattle.px_code.specs.CodeRun.{given}
+use Rattle.px_code.specs.Places.{other, side_of, same_side, home_in, node_by, field_node, site_kind, part_by}
+use Rattle.px_code.specs.Points.{HasStatement, InSlot, ReadsPart, put}
+use Rattle.px_code.specs.Sends.{Keeps, read_there, IsRightSend}
+use Rattle.px_code.specs.Fits.{header_at, Leads, Fits}
+use Rattle.px_code.specs.Act.{Slots, operand, act_of, Reads, Writes, comes, at_object, acted}
 use Rattle.px_code.specs.Sound.{IsNoReference}
-use Rattle.px_code.specs.Law.{MachineFits, FrameFits, HasNoReference}
-use Rattle.px_code.specs.Machine.{Machine, value_in, slots_at, top, top_values, after_act, with_value, returned, answered, popped, sent, namings, naming, Stop, Threw, stop_of, Stepped, step, step_of, step_ends, ran_of}
+use Rattle.px_code.specs.Law.{HasNoReference}
+use Rattle.px_code.specs.Machine.{namings, naming}
 use Rattle.px_value.specs.Heap.{header_of}
-use Rattle.px_code.proofs.Staying.{word_stays, step_stays, leads_to_object}
+use Rattle.px_code.proofs.Staying.{leads_to_object}
 use Rattle.px_half.specs.Messages.{is_marked, is_named}
-use Rattle.px_pair.specs.Agree.{seen, KeepsCell, CopiesAgree, AllNamed, Agree}
-use Rattle.px_pair.specs.Law.{NamesClasses, RunsAlike}
-use Rattle.px_pair.proofs.Heaps.{marked_more, or_assoc, same_is, same_refl}
-use Rattle.px_pair.proofs.Frames.{same_top, same_values, same_filled_if, same_take, same_answered}
-use Rattle.px_pair.proofs.Acts.{acts_alike, ActsAlike}
+use Rattle.px_pair.specs.Agree.{KeepsCell}
+use Rattle.px_pair.specs.Law.{NamesClasses}
+use Rattle.px_pair.proofs.Heaps.{or_assoc, eq_self}
 
 -- a throw comes before a write
 pub throws_first : (word : Word) (slots : Slots) (heap : List Object) (t : Thrown) → (acted (act_of word slots) heap).ends ≡ Err t → (acted (act_of word slots) heap).writes ≡ []
@@ -117,9 +111,6 @@ module _ (plan : Plan) where
   both true true h = (refl, refl)
   both true false h = cc
   both false b h = cc
-
-  eq_self : (n : ℕ) → (n == n) ≡ true
-  eq_self n = same_is n n ∙ same_refl n
 
   named_one : (home : Side) (o : ℕ) (side : Side) → home ≡ side → is_named (record { home = home; object = o } ∷ []) side o ≡ true
   named_one home o side e = (λ i. ((eq_self o i) && same_side (e i) side) || false) ∙ ap (λ b. b || false) (same_self side)

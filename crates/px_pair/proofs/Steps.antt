@@ -2,8 +2,6 @@
 use Rattle.std.proofs.Common.{◌≡◌, ℕ, Bool, true, false, ◌||◌, List, [], ◌∷◌, ◌++◌, map, take, min, Option, Some, None, Ok, Err, refl, sym, ap, subst, ◌∙◌, append-nil}
 use Rattle.std.specs.List.{AllByRecursion}
 use Rattle.px_value.specs.declared.value.Value.{Value}
-use Rattle.px_value.specs.declared.value.Value.TheVariants as v
-use Rattle.px_value.specs.declared.object.Object.{Object}
 use Rattle.px_value.specs.declared.header.Header.{Header}
 use Rattle.px_value.specs.Operators.{Applied}
 use Rattle.px_code.specs.declared.side.Side.{Side}
@@ -17,9 +15,9 @@ use Rattle.px_code.specs.declared.block.Block.{Block}
 use Rattle.px_code.specs.declared.block.Statement.{Statement}
 use Rattle.px_code.specs.declared.plan.Plan.{Plan}
 use Rattle.px_code.specs.Places.{other, side_of, home_in}
-use Rattle.px_code.specs.Points.{HasStatement, InSlot}
+use Rattle.px_code.specs.Points.{HasStatement}
 use Rattle.px_code.specs.Sends.{IsRightSend}
-use Rattle.px_code.specs.Fits.{header_at, Leads}
+use Rattle.px_code.specs.Fits.{header_at}
 use Rattle.px_code.specs.Act.{Slots, act_of, slot_of, Acted, acted}
 use Rattle.px_code.specs.CodeRun.{Ran, given}
 use Rattle.px_code.specs.Cut.{IsPlaced}
@@ -27,7 +25,7 @@ use Rattle.px_code.specs.Law.{MachineFits, HasNoReference, AreStatements, NoLite
 use Rattle.px_code.specs.Machine.{Machine, top, top_values, filled_if, after_act, with_value, answered, sent, namings, Stop, RunsOn, Returned, Threw, stop_of, Stepped, step, step_of, step_ends, ran_of, steps, then_steps, also_ran}
 use Rattle.px_code.proofs.Staying.{word_stays, step_stays}
 use Rattle.px_half.specs.Messages.{is_marked, is_named}
-use Rattle.px_pair.specs.Agree.{seen, KeepsCell, CopiesAgree, AllNamed, Agree}
+use Rattle.px_pair.specs.Agree.{seen, KeepsCell, CopiesAgree, Agree}
 use Rattle.px_pair.specs.Law.{NamesClasses, RunsAlike, BlocksRunAlike}
 use Rattle.px_pair.proofs.Heaps.{marked_more}
 use Rattle.px_pair.proofs.Frames.{same_top, same_values, same_filled_if, same_take, same_answered}
@@ -175,13 +173,13 @@ module _ (plan : Plan) (b : Block) (names : NamesClasses plan.code) where
   more_ran : (xs ys zs ws : List Ran) → xs ≡ ys → zs ≡ ws → xs ++ zs ≡ ys ++ ws
   more_ran xs ys zs ws e f = λ i. e i ++ f i
 
-  rest_alike : (far : Machine) (here there : Stepped) (rest : List Statement) → RunsAlike plan b.side far here there → (RunsAlike plan b.side far (steps rest here.machine) (steps rest there.machine)) → RunsAlike plan b.side far (also_ran here.ran (steps rest here.machine)) (also_ran there.ran (steps rest there.machine))
-  rest_alike far here there rest one after = record { stop = after.stop; ran = more_ran here.ran there.ran (steps rest here.machine).ran (steps rest there.machine).ran one.ran after.ran; agree = after.agree }
+  rest_alike : (far : Machine) (near one_heap : Stepped) (rest : List Statement) → RunsAlike plan b.side far near one_heap → (RunsAlike plan b.side far (steps rest near.machine) (steps rest one_heap.machine)) → RunsAlike plan b.side far (also_ran near.ran (steps rest near.machine)) (also_ran one_heap.ran (steps rest one_heap.machine))
+  rest_alike far near one_heap rest one after = record { stop = after.stop; ran = more_ran near.ran one_heap.ran (steps rest near.machine).ran (steps rest one_heap.machine).ran one.ran after.ran; agree = after.agree }
 
-  then_alike : (far : Machine) (here there : Stepped) (rest : List Statement) (stop : Stop) → there.stop ≡ stop → RunsAlike plan b.side far here there → (there.stop ≡ RunsOn → RunsAlike plan b.side far (steps rest here.machine) (steps rest there.machine)) → RunsAlike plan b.side far (then_steps here (steps rest) stop) (then_steps there (steps rest) stop)
-  then_alike far here there rest RunsOn is one after = rest_alike far here there rest one (after is)
-  then_alike far here there rest Returned is one after = one
-  then_alike far here there rest (Threw t) is one after = one
+  then_alike : (far : Machine) (near one_heap : Stepped) (rest : List Statement) (stop : Stop) → one_heap.stop ≡ stop → RunsAlike plan b.side far near one_heap → (one_heap.stop ≡ RunsOn → RunsAlike plan b.side far (steps rest near.machine) (steps rest one_heap.machine)) → RunsAlike plan b.side far (then_steps near (steps rest) stop) (then_steps one_heap (steps rest) stop)
+  then_alike far near one_heap rest RunsOn is one after = rest_alike far near one_heap rest one (after is)
+  then_alike far near one_heap rest Returned is one after = one
+  then_alike far near one_heap rest (Threw t) is one after = one
 
   pub all_alike : (statements : List Statement) (near far one : Machine) → AllByRecursion (IsPlaced plan.code plan.placement.sides b) statements → AreStatements plan.code b.method statements → NoLiteralReference statements → MachineFits plan.code b.method one → Agree plan b.side near far one → RunsAlike plan b.side far (steps statements near) (steps statements one)
   all_alike [] near far one placed are plain fits agree = record { stop = refl; ran = refl; agree = agree }

@@ -1,18 +1,11 @@
 -- The statements of a block leave an end whose stack can be told.
-use Rattle.std.proofs.Common.{◌≡◌, ℕ, ◌≤◌, true, List, length, sym, ◌∙◌, arith}
-use Rattle.std.specs.List.{AllByRecursion}
-use Rattle.px_value.specs.declared.value.Value.{Value}
-use Rattle.px_code.specs.declared.block.Block.{Block}
+use Rattle.std.proofs.Common.{◌≡◌, true, sym, arith}
 use Rattle.px_code.specs.declared.frame.Frame.{Frame}
-use Rattle.px_code.specs.declared.plan.Plan.{Plan}
-use Rattle.px_code.specs.Cut.{IsPlaced}
-use Rattle.px_code.specs.Law.{AreStatements, NoLiteralReference, MachineFits}
 use Rattle.px_code.specs.Machine.{Machine, steps}
 use Rattle.px_half.specs.Messages.{frame_told}
 use Rattle.px_half.specs.Absorbed.{frame_fits}
-use Rattle.px_pair.specs.Agree.{Agree}
-use Rattle.px_pair.specs.Law.{NamesClasses, RunsAlike}
-use Rattle.px_pair.specs.Crossing.{CanTell, SlotsLead, ReturnNoLiterals, StepsCanTell}
+use Rattle.px_pair.specs.Law.{RunsAlike}
+use Rattle.px_pair.specs.Crossing.{SlotsLead, StepsCanTell}
 use Rattle.px_pair.proofs.Steps.{blocks_run_alike}
 use Rattle.px_pair.proofs.StackKeeping as keeping
 use Rattle.px_pair.proofs.ControlCrossing.{same_length, lead_seen}

@@ -1,5 +1,5 @@
 -- Two ends that together have one heap and one stack. `near` is the machine of the side with control, `far` the other one, `one` the machine on the one heap.
-use Rattle.std.specs.Prelude.{◌≡◌, ℕ, true, false, List, map, Option, Some, is_some}
+use Rattle.std.specs.Prelude.{◌≡◌, ℕ, true, false, List, map, Some, is_some}
 use Rattle.px_value.specs.declared.value.Value.{Value}
 use Rattle.px_value.specs.declared.object.Object.{Object}
 use Rattle.px_value.specs.declared.header.Header.{Header}

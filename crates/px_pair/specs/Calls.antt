@@ -1,5 +1,5 @@
 -- A call at two ends: blocks that run at the end with control, and messages that hand control over.
-use Rattle.std.specs.Prelude.{◌≡◌, ℕ, List, [], ◌++◌, Option, Some}
+use Rattle.std.specs.Prelude.{◌≡◌, ℕ, List, [], ◌++◌, Some}
 use Rattle.std.specs.List.{AllByRecursion}
 use Rattle.px_value.specs.declared.thrown.Thrown.{Thrown}
 use Rattle.px_code.specs.declared.side.Side.{Side}

@@ -1,5 +1,5 @@
 -- Control goes over: what the message of one end leaves at the other.
-use Rattle.std.specs.Prelude.{◌≡◌, ℕ, true, false, List, [], ◌∷◌, ◌++◌, map, take, drop, length, Option, Some, nat_lt, nat_le, ◌≤◌}
+use Rattle.std.specs.Prelude.{◌≡◌, ℕ, true, false, List, [], ◌∷◌, ◌++◌, map, take, drop, length, Some, nat_lt, nat_le, ◌≤◌}
 use Rattle.std.specs.List.{list_all, AllByRecursion}
 use Rattle.px_value.specs.declared.object.Object.{Object}
 use Rattle.px_code.specs.declared.side.Side.{Side}

@@ -2,3 +2,5 @@ pub mod Agree
 pub mod Law
 pub mod Crossing
 pub mod Calls
+pub mod Sessions
+pub mod Fresh

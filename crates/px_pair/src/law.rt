@@ -2,6 +2,8 @@
 ghost use Rattle.px_pair.specs.Law.{BlocksRunAlike};
 ghost use Rattle.px_pair.specs.Crossing.{StepsKeepStacks, StepsCanTell, ControlCrosses};
 ghost use Rattle.px_pair.specs.Calls.{CallsAgree};
+ghost use Rattle.px_pair.specs.Fresh.{NothingStale};
+ghost use Rattle.px_pair.specs.Sessions.{NewRests, CallsBegin, CommitsKeep};
 
 /// Where two ends together have one heap and one stack, a block does at the end with control what it does on that heap: the same statements run, with the same reads and writes, and both ends have one heap again. What it reads is the newest value.
 pub fn blocks_run_alike()
@@ -26,4 +28,24 @@ pub fn control_crosses()
 /// A whole call at two ends, however control goes over, is one on the one heap: the same statements run, with the same reads and writes, it ends alike, and both ends have that heap.
 pub fn calls_agree()
     ensures { CallsAgree }
+{}
+
+/// No read of a call at two ends is stale, where none was before it and every written cell is there.
+pub fn nothing_stale()
+    ensures { NothingStale }
+{}
+
+/// Both ends of a new session, with the same heap, have the one heap.
+pub fn new_rests()
+    ensures { NewRests }
+{}
+
+/// A call that begins at two ends that have the one heap begins as on that heap, and its stack can be told.
+pub fn calls_begin()
+    ensures { CallsBegin }
+{}
+
+/// The commit of APP, taken in by DB, leaves two ends that have the one heap.
+pub fn commits_keep()
+    ensures { CommitsKeep }
 {}
