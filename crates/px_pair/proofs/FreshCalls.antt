@@ -22,7 +22,7 @@ use Rattle.px_code.specs.Fits.{Fits, header_at}
 use Rattle.px_code.specs.Act.{act_of, Acted, acted}
 use Rattle.px_code.specs.CodeRun.{Ran}
 use Rattle.px_code.specs.Cut.{IsPlaced}
-use Rattle.px_code.specs.Stale.{Event, Brought, has_cell, same_cell, IsStale, NoneStale}
+use Rattle.px_code.specs.Stale.{Event, Brought, has_cell, same_cell, IsStale}
 use Rattle.px_code.specs.Law.{MachineFits, StaysWithin, RanWithin}
 use Rattle.px_code.specs.Machine.{Machine, top_values, after_act, with_value, Stop, RunsOn, Returned, Threw, Stepped, step, step_ends, steps, then_steps, block_at, next_block}
 use Rattle.px_code.specs.Sound.{Ending}
@@ -35,7 +35,7 @@ use Rattle.px_pair.specs.Agree.{KeepsCell, Agree}
 use Rattle.px_pair.specs.Law.{NamesClasses, RunsAlike}
 use Rattle.px_pair.specs.Crossing.{FramesLike, bare}
 use Rattle.px_pair.specs.Calls.{RunsAtBoth, finished, runs, falls, crosses, IsGoodBlock, AreGoodBlocks}
-use Rattle.px_pair.specs.Fresh.{with_ran, place_of, events_of, MarksThere, IsCurrent, NothingStale}
+use Rattle.px_pair.specs.Fresh.{with_ran, place_of, events_of, MarksThere, IsCurrent, IsFresh, NothingStale, CommitsLeaveFresh}
 use Rattle.px_pair.proofs.Steps.{blocks_run_alike}
 use Rattle.px_pair.proofs.StackKeeping as keeping
 use Rattle.px_pair.proofs.ControlCrossing as control
@@ -120,6 +120,9 @@ current_on plan side old new marks events e h = record {
   there = λ c kept m s. h.there c (λ hd is. kept hd (e c.object ∙ is)) m s;
 }
 
+fresh_on : (plan : Plan) (side : Side) (old new : List Object) (marks : List Cell) (events : List Event) → ((o : ℕ) → header_at new o ≡ header_at old o) → IsFresh plan side old marks events → IsFresh plan side new marks events
+fresh_on plan side old new marks events e h = (current_on plan side old new marks events e h.0, h.1)
+
 same_other : (side : Side) → other (other side) ≡ side
 same_other App = refl
 same_other Db = refl
@@ -171,51 +174,62 @@ module _ (plan : Plan) (names : NamesClasses plan.code) (good : AreGoodBlocks pl
   abbrev blocks : List Block
   blocks = plan.blocks.blocks
 
-  -- what a block does to staleness, by the one heap
+  -- What a block does to staleness. The heap before it says who keeps what.
   block_fresh : (b : Block) (near far one : Machine) → IsGoodBlock plan b → Agree plan b.side near far one → MachineFits plan.code b.method one
-      → (events : List Event) → IsCurrent plan b.side one.heap near.marks events → NoneStale events
-      → IsCurrent plan b.side (steps b.statements one).machine.heap (steps b.statements near).machine.marks (with_ran b.side (steps b.statements near).ran events) × NoneStale (with_ran b.side (steps b.statements near).ran events)
-  block_fresh b near far one g agree machine events current none =
+      → (events : List Event) → IsFresh plan b.side one.heap near.marks events → IsFresh plan b.side one.heap (steps b.statements near).machine.marks (with_ran b.side (steps b.statements near).ran events)
+  block_fresh b near far one g agree machine events before =
       let alike : RunsAlike plan b.side far (steps b.statements near) (steps b.statements one) = blocks_run_alike plan b near far one names g.placed g.are g.plain machine agree in
       let stays : StaysWithin plan.code b.method one (steps b.statements one) = stay plan.code b.method b.statements one g.are g.plain machine in
       let kept : RanKept plan b.side one.heap (steps b.statements near).ran = subst (λ (rs : List Ran). RanKept plan b.side one.heap rs) (sym alike.ran) (ran_kept plan b one.heap (steps b.statements one).ran (steps_placed plan b b.statements one g.placed) stays.ran) in
-      let fresh : IsCurrent plan b.side one.heap (near.marks ++ all_writes (steps b.statements near).ran) (with_ran b.side (steps b.statements near).ran events) × NoneStale (with_ran b.side (steps b.statements near).ran events) = ran_fresh plan b.side one.heap (steps b.statements near).ran near.marks events kept current none in (
-        current_on plan b.side one.heap (steps b.statements one).machine.heap (steps b.statements near).machine.marks (with_ran b.side (steps b.statements near).ran events) stays.headers
-            (subst (λ (ms : List Cell). IsCurrent plan b.side one.heap ms (with_ran b.side (steps b.statements near).ran events)) (sym (steps_marks b.statements near)) fresh.0),
-        fresh.1,
-      )
+      subst (λ (ms : List Cell). IsFresh plan b.side one.heap ms (with_ran b.side (steps b.statements near).ran events)) (sym (steps_marks b.statements near))
+      (ran_fresh plan b.side one.heap (steps b.statements near).ran near.marks events kept before.0 before.1)
+
+  -- the same, at the side that has control
+  side_fresh : (b : Block) (side : Side) (near far one : Machine) → b.side ≡ side → IsGoodBlock plan b → Agree plan side near far one → MachineFits plan.code b.method one
+      → (events : List Event) → IsFresh plan side one.heap near.marks events → IsFresh plan side one.heap (steps b.statements near).machine.marks (with_ran side (steps b.statements near).ran events)
+  side_fresh b side near far one at g agree machine events before =
+      subst (λ (y : Side). IsFresh plan y one.heap (steps b.statements near).machine.marks (with_ran y (steps b.statements near).ran events)) at
+      (block_fresh b near far one g (subst (λ (y : Side). Agree plan y near far one) (sym at) agree) machine events (subst (λ (y : Side). IsFresh plan y one.heap near.marks events) (sym at) before))
 
   fresh : (side last : Side) (near far last_near last_far : Machine) (n : ℕ) (ran : List Ran) (ending : Ending) (d : RunsAtBoth plan side near far n ran ending last last_near last_far)
       → (one : Machine) → Agree plan side near far one → FramesLike near.frames (bare plan near far) → Fits plan.code one.heap → ((b : Block) → block_at blocks n ≡ Some b → MachineFits plan.code b.method one)
       → MarksThere plan side near far n ran ending last last_near last_far d
-      → (events : List Event) → IsCurrent plan side one.heap near.marks events → NoneStale events → NoneStale (events_of plan side near far n ran ending last last_near last_far d events)
+      → (events : List Event) → IsFresh plan side one.heap near.marks events → IsFresh plan last one.heap last_near.marks (events_of plan side near far n ran ending last last_near last_far d events)
   unfolding events_of MarksThere
-  fresh _ _ near far _ _ _ _ _ finished one agree like fits machine marks events current none = none
-  fresh side last near far last_near last_far n _ ending (runs {b = b} {ran = ran} is at going after) one agree like fits machine marks events current none =
+  fresh _ _ near far _ _ _ _ _ finished one agree like fits machine marks events before = before
+  fresh side last near far last_near last_far n _ ending (runs {b = b} {ran = ran} is at going after) one agree like fits machine marks events before =
       let g : IsGoodBlock plan b = good n b is in
-      let here : Agree plan b.side near far one = subst (λ (y : Side). Agree plan y near far one) (sym at) agree in
-      let alike : RunsAlike plan b.side far (steps b.statements near) (steps b.statements one) = blocks_run_alike plan b near far one names g.placed g.are g.plain (machine b is) here in
+      let alike : RunsAlike plan b.side far (steps b.statements near) (steps b.statements one) = blocks_run_alike plan b near far one names g.placed g.are g.plain (machine b is) (subst (λ (y : Side). Agree plan y near far one) (sym at) agree) in
       let stays : StaysWithin plan.code b.method one (steps b.statements one) = stay plan.code b.method b.statements one g.are g.plain (machine b is) in
       let fit_next : (c : Block) → block_at blocks (next_block b.exit (steps b.statements near).stop) ≡ Some c → MachineFits plan.code c.method (steps b.statements one).machine =
       subst (λ (x : Stop). (c : Block) → block_at blocks (next_block b.exit x) ≡ Some c → MachineFits plan.code c.method (steps b.statements one).machine) (sym alike.stop) (next_fits plan names good b g one (steps b.statements one).machine (steps b.statements one).stop stays.machine) in
-      let done : IsCurrent plan side (steps b.statements one).machine.heap (steps b.statements near).machine.marks (with_ran side (steps b.statements near).ran events) × NoneStale (with_ran side (steps b.statements near).ran events) =
-      subst (λ (y : Side). IsCurrent plan y (steps b.statements one).machine.heap (steps b.statements near).machine.marks (with_ran y (steps b.statements near).ran events) × NoneStale (with_ran y (steps b.statements near).ran events)) at
-      (block_fresh b near far one g here (machine b is) events (subst (λ (y : Side). IsCurrent plan y one.heap near.marks events) (sym at) current) none) in
-      fresh side last (steps b.statements near).machine far last_near last_far (next_block b.exit (steps b.statements near).stop) ran ending after (steps b.statements one).machine
+      let now : List Event = with_ran side (steps b.statements near).ran events in
+      let done : IsFresh plan side one.heap (steps b.statements near).machine.marks now = side_fresh b side near far one at g agree (machine b is) events before in
+      fresh_on plan last (steps b.statements one).machine.heap one.heap last_near.marks (events_of plan side (steps b.statements near).machine far (next_block b.exit (steps b.statements near).stop) ran ending last last_near last_far after now) (λ o. sym (stays.headers o))
+      (fresh side last (steps b.statements near).machine far last_near last_far (next_block b.exit (steps b.statements near).stop) ran ending after (steps b.statements one).machine
       (subst (λ (y : Side). Agree plan y (steps b.statements near).machine far (steps b.statements one).machine) at alike.agree)
-      (keeping.steps_keep_stacks plan b.statements near far like) stays.heap fit_next marks (with_ran side (steps b.statements near).ran events) done.0 done.1
-  fresh side _ near far _ _ n _ _ (falls {b = b} is at fell) one agree like fits machine marks events current none =
-      let g : IsGoodBlock plan b = good n b is in
-      let here : Agree plan b.side near far one = subst (λ (y : Side). Agree plan y near far one) (sym at) agree in
-      subst (λ (y : Side). NoneStale (with_ran y (steps b.statements near).ran events)) at
-      (block_fresh b near far one g here (machine b is) events (subst (λ (y : Side). IsCurrent plan y one.heap near.marks events) (sym at) current) none).1
-  fresh side last near far last_near last_far n ran ending (crosses {new = new} {t = t} tells at taken after) one agree like fits machine marks events current none =
+      (keeping.steps_keep_stacks plan b.statements near far like) stays.heap fit_next marks now
+      (fresh_on plan side one.heap (steps b.statements one).machine.heap (steps b.statements near).machine.marks now stays.headers done))
+  fresh side _ near far _ _ n _ _ (falls {b = b} is at fell) one agree like fits machine marks events before = side_fresh b side near far one at (good n b is) agree (machine b is) events before
+  fresh side last near far last_near last_far n ran ending (crosses {new = new} {t = t} tells at taken after) one agree like fits machine marks events before =
       let is : new ≡ in_control plan t far far.heap = control.taken_is plan side near far one t agree fits like tells new taken in
+      let now : List Event = Brought (other side) (map place_of t.updates.cells) ∷ events in
       fresh (other side) last new near last_near last_far n ran ending after one
       (subst (λ (x : Machine). Agree plan (other side) x near one) (sym is) (control.new_agree plan side near far one t agree fits like tells))
-      (subst (λ (x : Machine). FramesLike x.frames (bare plan x near)) (sym is) (control.new_like plan side near far one t agree fits like tells)) fits machine
-      marks.1 (Brought (other side) (map place_of t.updates.cells) ∷ events)
-      (subst (λ (x : Machine). IsCurrent plan (other side) one.heap x.marks (Brought (other side) (map place_of t.updates.cells) ∷ events)) (sym is) (current_over plan side near far one t.updates agree tells.updates marks.0 events current)) none
+      (subst (λ (x : Machine). FramesLike x.frames (bare plan x near)) (sym is) (control.new_like plan side near far one t agree fits like tells)) fits machine marks.1 now
+      (subst (λ (x : Machine). IsFresh plan (other side) one.heap x.marks now) (sym is) (current_over plan side near far one t.updates agree tells.updates marks.0 events before.0, before.1))
 
 pub nothing_stale : NothingStale
-nothing_stale plan names good side last near far last_near last_far n ran ending d one agree like fits machine marks events current none = fresh plan names good side last near far last_near last_far n ran ending d one agree like fits machine marks events current none
+nothing_stale plan names good side last near far last_near last_far n ran ending d one agree like fits machine marks events before = fresh plan names good side last near far last_near last_far n ran ending d one agree like fits machine marks events before
+
+-- ---- a commit
+
+-- where nothing was written since control came, the sides are alike
+turned : (plan : Plan) (side : Side) (heap : List Object) (events : List Event) → IsCurrent plan side heap [] events → IsCurrent plan (other side) heap [] events
+turned plan side heap events h = record {
+  here = λ c kept s. h.there c kept refl s;
+  there = λ c kept m s. h.here c (subst (λ (y : Side). KeepsCell plan y heap c.object c.index) (same_other side) kept) (subst (λ (y : Side). IsStale events y c) (same_other side) s);
+}
+
+pub commits_leave_fresh : CommitsLeaveFresh
+commits_leave_fresh plan near far one u agree is there events before = (turned plan Db one.heap (Brought Db (map place_of u.cells) ∷ events) (current_over plan App near far one u agree is there events before.0), before.1)

@@ -1,8 +1,9 @@
 -- What happens in a call at two ends, as reads, writes and messages, and that no read of it is stale.
-use Rattle.std.specs.Prelude.{◌≡◌, ℕ, true, false, is_some, List, [], ◌∷◌, map, Some}
+use Rattle.std.specs.Prelude.{◌≡◌, ℕ, true, false, is_some, List, [], ◌∷◌, map, length, Some}
 use Rattle.px_value.specs.declared.object.Object.{Object}
 use Rattle.px_value.specs.Heap.{cell_at}
 use Rattle.px_code.specs.declared.side.Side.{Side}
+use Rattle.px_code.specs.declared.side.Side.TheVariants.{App, Db}
 use Rattle.px_code.specs.declared.cell.Cell.{Cell}
 use Rattle.px_code.specs.declared.block.Block.{Block}
 use Rattle.px_code.specs.declared.plan.Plan.{Plan}
@@ -14,7 +15,8 @@ use Rattle.px_code.specs.Law.{MachineFits}
 use Rattle.px_code.specs.Machine.{Machine, steps, block_at}
 use Rattle.px_code.specs.Sound.{Ending}
 use Rattle.px_wire.specs.declared.cell.CellAt.{CellAt}
-use Rattle.px_half.specs.Messages.{is_marked}
+use Rattle.px_wire.specs.declared.updates.Updates.{Updates}
+use Rattle.px_half.specs.Messages.{is_marked, AreUpdates}
 use Rattle.px_pair.specs.Agree.{KeepsCell, Agree}
 use Rattle.px_pair.specs.Law.{NamesClasses}
 use Rattle.px_pair.specs.Crossing.{FramesLike, bare}
@@ -57,10 +59,19 @@ pub record IsCurrent (plan : Plan) (side : Side) (heap : List Object) (marks : L
   pub here : (c : Cell) → KeepsCell plan side heap c.object c.index → IsStale events side c → ⊥
   pub there : (c : Cell) → KeepsCell plan (other side) heap c.object c.index → is_marked marks c.object c.index ≡ false → IsStale events (other side) c → ⊥
 
--- no read of the call is stale
+-- no read is stale, and no copy is old at the end
+abbrev pub IsFresh : Plan → Side → List Object → List Cell → List Event → Type 0
+IsFresh plan side heap marks events = IsCurrent plan side heap marks events × NoneStale events
+
+-- No read of the call is stale. Which object is what doesn't change in it, so the heap at its begin says who keeps what.
 abbrev pub NothingStale : Type 0
 NothingStale = (plan : Plan) → NamesClasses plan.code → AreGoodBlocks plan
     → (side last : Side) (near far last_near last_far : Machine) (n : ℕ) (ran : List Ran) (ending : Ending) (d : RunsAtBoth plan side near far n ran ending last last_near last_far)
     → (one : Machine) → Agree plan side near far one → FramesLike near.frames (bare plan near far) → Fits plan.code one.heap → ((b : Block) → block_at plan.blocks.blocks n ≡ Some b → MachineFits plan.code b.method one)
     → MarksThere plan side near far n ran ending last last_near last_far d
-    → (events : List Event) → IsCurrent plan side one.heap near.marks events → NoneStale events → NoneStale (events_of plan side near far n ran ending last last_near last_far d events)
+    → (events : List Event) → IsFresh plan side one.heap near.marks events → IsFresh plan last one.heap last_near.marks (events_of plan side near far n ran ending last last_near last_far d events)
+
+-- after the commit of APP no copy is old, and the next call may begin
+abbrev pub CommitsLeaveFresh : Type 0
+CommitsLeaveFresh = (plan : Plan) (near far one : Machine) (u : Updates) → Agree plan App near far one → AreUpdates (Some plan) (length near.heap) near u → ((place index : ℕ) → is_marked near.marks place index ≡ true → is_some (cell_at near.heap place index) ≡ true)
+    → (events : List Event) → IsFresh plan App one.heap near.marks events → IsFresh plan App one.heap [] (Brought Db (map place_of u.cells) ∷ events)

@@ -2,7 +2,7 @@
 ghost use Rattle.px_pair.specs.Law.{BlocksRunAlike};
 ghost use Rattle.px_pair.specs.Crossing.{StepsKeepStacks, StepsCanTell, ControlCrosses};
 ghost use Rattle.px_pair.specs.Calls.{CallsAgree};
-ghost use Rattle.px_pair.specs.Fresh.{NothingStale};
+ghost use Rattle.px_pair.specs.Fresh.{NothingStale, CommitsLeaveFresh};
 ghost use Rattle.px_pair.specs.Sessions.{NewRests, CallsBegin, CommitsKeep};
 
 /// Where two ends together have one heap and one stack, a block does at the end with control what it does on that heap: the same statements run, with the same reads and writes, and both ends have one heap again. What it reads is the newest value.
@@ -30,9 +30,14 @@ pub fn calls_agree()
     ensures { CallsAgree }
 {}
 
-/// No read of a call at two ends is stale, where none was before it and every written cell is there.
+/// No read of a call at two ends is stale, and no copy is old where it ends, if that held before it and every written cell is there.
 pub fn nothing_stale()
     ensures { NothingStale }
+{}
+
+/// After a commit no copy is old, and the next call may begin.
+pub fn commits_leave_fresh()
+    ensures { CommitsLeaveFresh }
 {}
 
 /// Both ends of a new session, with the same heap, have the one heap.
