@@ -14,3 +14,4 @@ pub mod Telling
 pub mod Sessions
 pub mod Fresh
 pub mod FreshCalls
+pub mod Good

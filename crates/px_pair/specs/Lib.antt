@@ -4,3 +4,4 @@ pub mod Crossing
 pub mod Calls
 pub mod Sessions
 pub mod Fresh
+pub mod Good

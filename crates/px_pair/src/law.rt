@@ -2,6 +2,7 @@
 ghost use Rattle.px_pair.specs.Law.{BlocksRunAlike};
 ghost use Rattle.px_pair.specs.Crossing.{StepsKeepStacks, StepsCanTell, ControlCrosses};
 ghost use Rattle.px_pair.specs.Calls.{CallsAgree};
+ghost use Rattle.px_pair.specs.Good.{CutIsGood};
 ghost use Rattle.px_pair.specs.Fresh.{NothingStale, CommitsLeaveFresh};
 ghost use Rattle.px_pair.specs.Sessions.{NewRests, CallsBegin, CommitsKeep};
 
@@ -53,4 +54,9 @@ pub fn calls_begin()
 /// The commit of APP, taken in by DB, leaves two ends that have the one heap.
 pub fn commits_keep()
     ensures { CommitsKeep }
+{}
+
+/// Blocks that are cut from code are as the laws here ask, if no literal is a reference and each method ends in a return.
+pub fn cut_is_good()
+    ensures { CutIsGood }
 {}
