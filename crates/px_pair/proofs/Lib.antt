@@ -15,3 +15,5 @@ pub mod Sessions
 pub mod Fresh
 pub mod FreshCalls
 pub mod Good
+pub mod Entries
+pub mod Whole

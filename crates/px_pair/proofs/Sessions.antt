@@ -61,7 +61,7 @@ entry_like [] types h = blanks_like types
 entry_like (x ∷ args) [] h = absurd (omega (arith, h))
 entry_like (x ∷ args) (t ∷ types) h = ((λ e. cc), entry_like args types (omega (arith, h)))
 
-default_plain : (t : Ty) → IsNoReference (default_of t)
+pub default_plain : (t : Ty) → IsNoReference (default_of t)
 default_plain ty.Int = tt
 default_plain ty.Long = tt
 default_plain ty.Bool = tt

@@ -5,3 +5,4 @@ pub mod Calls
 pub mod Sessions
 pub mod Fresh
 pub mod Good
+pub mod Whole

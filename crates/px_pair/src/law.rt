@@ -2,7 +2,8 @@
 ghost use Rattle.px_pair.specs.Law.{BlocksRunAlike};
 ghost use Rattle.px_pair.specs.Crossing.{StepsKeepStacks, StepsCanTell, ControlCrosses};
 ghost use Rattle.px_pair.specs.Calls.{CallsAgree};
-ghost use Rattle.px_pair.specs.Good.{CutIsGood};
+ghost use Rattle.px_pair.specs.Whole.{CallsDoAsCode};
+ghost use Rattle.px_pair.specs.Good.{CutIsGood, EntriesFit};
 ghost use Rattle.px_pair.specs.Fresh.{NothingStale, CommitsLeaveFresh};
 ghost use Rattle.px_pair.specs.Sessions.{NewRests, CallsBegin, CommitsKeep};
 
@@ -59,4 +60,14 @@ pub fn commits_keep()
 /// Blocks that are cut from code are as the laws here ask, if no literal is a reference and each method ends in a return.
 pub fn cut_is_good()
     ensures { CutIsGood }
+{}
+
+/// The machine with which a call of an entry begins fits the first block of that call.
+pub fn entries_fit()
+    ensures { EntriesFit }
+{}
+
+/// From two ends that have one heap, a call does what its code does on that heap: the same statements run, it ends alike, and both ends have the heap and the reply that the code leaves, wherever its blocks run and however control goes over.
+pub fn calls_do_as_code()
+    ensures { CallsDoAsCode }
 {}
