@@ -1,9 +1,8 @@
 -- One end of a session, as contracts see it, and what its calls do.
-use Rattle.std.specs.Prelude.{◌≡◌, ℕ, zero, suc, ◌+◌, ◌<◌, Bool, true, false, List, [], ◌∷◌, ◌++◌, length, map, drop, Option, Some, None, unwrap_or, slice_get, pos}
+use Rattle.std.specs.Prelude.{ℕ, zero, suc, ◌<◌, Bool, true, false, List, [], ◌∷◌, ◌++◌, length, map, drop, Option, Some, None, unwrap_or, slice_get}
 use Rattle.px_value.specs.declared.value.Value.{Value}
 use Rattle.px_value.specs.declared.value.Value.TheVariants.{Null, Ref}
 use Rattle.px_value.specs.declared.object.Object.{Object}
-use Rattle.px_value.specs.declared.header.Header.{Header}
 use Rattle.px_value.specs.declared.header.Kind.TheVariants as kind
 use Rattle.px_value.specs.declared.ty.Ty.{Ty}
 use Rattle.px_value.specs.Defaults.{default_of}
@@ -19,7 +18,7 @@ use Rattle.px_code.specs.declared.frame.Slot.{Slot}
 use Rattle.px_code.specs.declared.plan.Plan.{Plan}
 use Rattle.px_code.specs.declared.reply.Reply.{Reply}
 use Rattle.px_code.specs.declared.reply.Reply.TheVariants as reply
-use Rattle.px_code.specs.CodeRun.{Ran, method_at, first_values}
+use Rattle.px_code.specs.CodeRun.{Ran, method_at}
 use Rattle.px_code.specs.Machine.{Machine, Stepped, steps, Stop, Threw, block_at, next_block, value_in, slots_at, just_written}
 use Rattle.px_half.specs.declared.step.Step.{Step}
 use Rattle.px_half.specs.declared.step.Step.TheVariants as step

@@ -1,4 +1,4 @@
-ghost use Rattle.std.specs.Prelude.{◌≡◌, ◌≤◌, ◌<◌, true, length, slice_get, IfOk};
+ghost use Rattle.std.specs.Prelude.{◌≡◌, true, slice_get, IfOk};
 ghost use Rattle.std.specs.List.{AllByRecursion};
 ghost use Rattle.px_value.specs.declared.object.Object.{Object};
 ghost use Rattle.px_code.specs.declared.frame.Frame.{Frame};
@@ -6,7 +6,7 @@ ghost use Rattle.px_code.specs.declared.frame.Slot.{Slot};
 ghost use Rattle.px_wire.specs.Fitting.{HasShortText};
 ghost use Rattle.px_half.specs.End.{HasSmallMain};
 ghost use Rattle.px_half.specs.Machine.{machine_of};
-ghost use Rattle.px_half.specs.Messages.{IsTellable, IsTellableFrame, IsTellableHeap};
+ghost use Rattle.px_half.specs.Messages.{IsTellable, IsTellableFrame};
 
 use crate::first_heap::class_defaults;
 use crate::machine::Machine;
