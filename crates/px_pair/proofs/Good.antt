@@ -122,7 +122,7 @@ module _ (code : Code) (sides : List Side) where
 after : (n : ℕ) → n + 1 ≡ suc (0 + n)
 after n = omega arith
 
-exit_at : (n : ℕ) (blocks : List Block) (k : ℕ) (b : Block) → AreInRow n blocks → slice_get blocks k ≡ Some b → b.exit ≡ exit_if (block_returns b.statements) (suc (k + n))
+pub exit_at : (n : ℕ) (blocks : List Block) (k : ℕ) (b : Block) → AreInRow n blocks → slice_get blocks k ≡ Some b → b.exit ≡ exit_if (block_returns b.statements) (suc (k + n))
 exit_at n [] k b row at = cc
 exit_at n (x ∷ []) zero b row at = let e : x ≡ b = cc in subst (λ (y : Block). y.exit ≡ exit_if (block_returns y.statements) (suc (0 + n))) e (row ∙ ap (exit_if (block_returns x.statements)) (after n))
 exit_at n (x ∷ []) (suc k) b row at = cc
@@ -132,7 +132,7 @@ exit_at n (x ∷ y ∷ blocks) (suc k) b row at = exit_at (n + 1) (y ∷ blocks)
     shift : (k n : ℕ) → k + (n + 1) ≡ suc k + n
     shift k n = omega arith
 
-each_at : (P : Block → Type 0) (blocks : List Block) (k : ℕ) (b : Block) → AllByRecursion P blocks → slice_get blocks k ≡ Some b → P b
+pub each_at : {A : Type 0} (P : A → Type 0) (blocks : List A) (k : ℕ) (b : A) → AllByRecursion P blocks → slice_get blocks k ≡ Some b → P b
 each_at P [] k b h at = cc
 each_at P (x ∷ blocks) zero b h at = let e : x ≡ b = cc in subst P e h.0
 each_at P (x ∷ blocks) (suc k) b h at = each_at P blocks k b h.1 at

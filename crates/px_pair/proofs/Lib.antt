@@ -17,3 +17,4 @@ pub mod FreshCalls
 pub mod Good
 pub mod Entries
 pub mod Whole
+pub mod BlocksRun

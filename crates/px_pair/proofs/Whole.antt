@@ -1,5 +1,5 @@
 -- A whole call at two ends does what its code does on one heap.
-use Rattle.std.proofs.Common.{◌≡◌, ℕ, zero, suc, ◌≤◌, List, [], ◌∷◌, ◌++◌, length, Some, unwrap_or, refl, sym, ap, subst, ◌∙◌, arith}
+use Rattle.std.proofs.Common.{◌≡◌, ℕ, zero, suc, ◌+◌, ◌≤◌, false, true, List, [], ◌∷◌, ◌++◌, length, Some, unwrap_or, refl, sym, ap, subst, ◌∙◌, arith}
 use Rattle.px_value.specs.declared.value.Value.{Value}
 use Rattle.px_value.specs.declared.value.Value.TheVariants.{Null}
 use Rattle.px_value.specs.declared.object.Object.{Object}
@@ -21,6 +21,12 @@ use Rattle.px_pair.proofs.Calls.{calls_agree}
 use Rattle.px_pair.proofs.Sessions.{calls_begin}
 use Rattle.px_pair.proofs.Good.{cut_is_good}
 use Rattle.px_pair.proofs.Entries.{entries_fit}
+use Rattle.px_pair.proofs.Good.{each_at}
+use Rattle.px_pair.specs.Good.{ends_in_return}
+use Rattle.px_pair.proofs.BlocksRun.{blocks_run_as_code}
+use Rattle.px_code.specs.Frames.{types_of}
+use Rattle.px_value.specs.declared.ty.Ty.{Ty}
+use Rattle.std.specs.List.{AllByRecursion}
 
 -- ---- blocks run in one way
 
@@ -75,7 +81,13 @@ method_there (x ∷ methods) (suc (suc n)) m e = let below = method_there method
 
 pub calls_do_as_code : CallsDoAsCode
 calls_do_as_code plan app db one method args rest served last last_near last_far ran ending both =
-    let begins : CallBegins plan app db one method args = calls_begin plan app db one method args rest served.input.fits (method_there plan.code.methods method served.input.method served.input.is.is) served.room served.input.plain in
+    let slots_are : types_of (method_at plan.code.methods method) ≡ served.input.method.slots = ap types_of served.input.is.is in
+    let begins : CallBegins plan app db one method args = calls_begin plan app db one method args rest served.input.fits (method_there plan.code.methods method served.input.method served.input.is.is)
+    (subst (λ (types : List Ty). length args + 1 ≤ length types) (sym slots_are) served.room) served.input.plain in
     does plan (entered plan.code one method args) method last last_near last_far ran ending (run_of plan.code one method args)
     (calls_agree plan served.names (cut_is_good plan served.blocks served.no_literal served.return) App last (entered plan.code app method args) (attending db) last_near last_far (first_block plan method) ran ending both (entered plan.code one method args) begins.agree begins.can_tell.like served.input.fits (entries_fit plan one method args served.blocks served.input))
-    served.run
+    (blocks_run_as_code plan one method args served.input.method served.blocks served.input.is.is (returning plan.code.methods method served.input.method served.return served.input.is.is) served.inside served.room)
+  where
+    returning : (methods : List Method) (n : ℕ) (m : Method) → AllByRecursion (λ (x : Method). ends_in_return false x.body ≡ true) methods → method_at methods n ≡ Some m → ends_in_return false m.body ≡ true
+    returning methods zero m all e = cc
+    returning methods (suc n) m all e = each_at (λ (x : Method). ends_in_return false x.body ≡ true) methods n m all e

@@ -7,26 +7,25 @@ use Rattle.px_value.specs.Outcome.{Gives, Throws, Asks}
 use Rattle.px_code.specs.declared.side.Side.{Side}
 use Rattle.px_code.specs.declared.side.Side.TheVariants.{App}
 use Rattle.px_code.specs.declared.plan.Plan.{Plan}
-use Rattle.px_code.specs.CodeRun.{Ran, method_at}
-use Rattle.px_code.specs.Frames.{types_of}
+use Rattle.px_code.specs.CodeRun.{Ran}
 use Rattle.px_code.specs.Machine.{Machine, slots_at, value_in}
 use Rattle.px_code.specs.Cut.{AreBlocks}
-use Rattle.px_code.specs.Sound.{Ending, Finished, Fell, CodeOutcome, run_of, IsInput, entered, first_block, BlocksRun}
+use Rattle.px_code.specs.Sound.{Ending, Finished, Fell, CodeOutcome, run_of, IsInput, entered, first_block}
 use Rattle.px_pair.specs.Agree.{Agree}
 use Rattle.px_pair.specs.Law.{NamesClasses}
 use Rattle.px_pair.specs.Calls.{RunsAtBoth}
 use Rattle.px_pair.specs.Sessions.{Rest, attending}
-use Rattle.px_pair.specs.Good.{HasNoLiteral, AllReturn}
+use Rattle.px_pair.specs.Good.{HasNoLiteral, AllReturn, WritesInside}
 
--- code and blocks as the laws ask, blocks that run as their code does, and room for `this` and the arguments
+-- Code and its blocks, and a call of one of its entries, which has the slots that it writes, and room for `this` and the arguments.
 pub record IsServed (plan : Plan) (heap : List Object) (method : ℕ) (args : List Value) : Type 0 where
   pub blocks : AreBlocks plan.code plan.placement.sides plan.blocks
   pub names : NamesClasses plan.code
   pub no_literal : HasNoLiteral plan.code
   pub return : AllReturn plan.code
   pub input : IsInput plan.code heap method args
-  pub room : length args + 1 ≤ length (types_of (method_at plan.code.methods method))
-  pub run : BlocksRun plan (entered plan.code heap method args) method (run_of plan.code heap method args)
+  pub room : length args + 1 ≤ length input.method.slots
+  pub inside : WritesInside (length input.method.slots) input.method.body
 
 -- these statements run, the call ends so, and both ends have this heap and this reply
 pub record CallIs (plan : Plan) (side : Side) (near far : Machine) (heap : List Object) (ran that_ran : List Ran) (ending that_ending : Ending) (reply : Value) : Type 0 where

@@ -3,7 +3,7 @@ ghost use Rattle.px_pair.specs.Law.{BlocksRunAlike};
 ghost use Rattle.px_pair.specs.Crossing.{StepsKeepStacks, StepsCanTell, ControlCrosses};
 ghost use Rattle.px_pair.specs.Calls.{CallsAgree};
 ghost use Rattle.px_pair.specs.Whole.{CallsDoAsCode};
-ghost use Rattle.px_pair.specs.Good.{CutIsGood, EntriesFit};
+ghost use Rattle.px_pair.specs.Good.{CutIsGood, EntriesFit, BlocksRunAsCode};
 ghost use Rattle.px_pair.specs.Fresh.{NothingStale, CommitsLeaveFresh};
 ghost use Rattle.px_pair.specs.Sessions.{NewRests, CallsBegin, CommitsKeep};
 
@@ -70,4 +70,9 @@ pub fn entries_fit()
 /// From two ends that have one heap, a call does what its code does on that heap: the same statements run, it ends alike, and both ends have the heap and the reply that the code leaves, wherever its blocks run and however control goes over.
 pub fn calls_do_as_code()
     ensures { CallsDoAsCode }
+{}
+
+/// Blocks that are cut from code, one after the other, do what a call of a method does: the same statements run, with the same reads and writes, and the reply, the throw and the heap are the same.
+pub fn blocks_run_as_code()
+    ensures { BlocksRunAsCode }
 {}
