@@ -17,4 +17,7 @@ pub mod FreshCalls
 pub mod Good
 pub mod Entries
 pub mod Whole
+pub mod BlockRest
+pub mod MethodRun
+pub mod MethodStart
 pub mod BlocksRun
