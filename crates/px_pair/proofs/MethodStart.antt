@@ -75,6 +75,20 @@ module _ (blocks : List Block) where
       by true e = let same = eqb-true a b e in absurd (omega (arith, same, h))
       by false e = e
 
+  -- a block of another method is passed
+  passed : (m n : ℕ) (b : Block) (later : List Block) (ls : List Line) → (b.method == m) ≡ false → Skipped m (first_of m (suc (suc n)) later) ls → Skipped m (first_of m (suc n) (b ∷ later)) ls
+  passed m n b later ls other s = record {
+    n = s.n;
+    later = s.later;
+    first_is = ap (λ (r : Bool). if r then suc n else first_of m (suc n + 1) later) other ∙ ap (λ (k : ℕ). first_of m k later) next ∙ s.first_is;
+    later_is = s.later_is;
+    filled = s.filled;
+    lines = s.lines;
+  }
+    where
+      next : suc n + 1 ≡ suc (suc n)
+      next = omega arith
+
   -- the rest of a method lies before every later one
   skip : (later : List Block) (j : ℕ) (trees : List Tree) (methods : List Method) (m n : ℕ) → j < m → AreFilled later → Numbered n later → flat_map block_lines later ≡ map (tree_line j) trees ++ lines_from (j + 1) methods → Skipped m (first_of m (suc n) later) (lines_from (j + 1) methods)
   skip later j [] methods m n before filled is e = record { n = n; later = later; first_is = refl; later_is = is; filled = filled; lines = e }
@@ -85,17 +99,7 @@ module _ (blocks : List Block) where
       strip j b.statements (Do node word ∷ trees) methods (flat_map block_lines later)
       (subst (λ (i : ℕ). map (statement_line i) b.statements ++ flat_map block_lines later ≡ map (tree_line j) (Do node word ∷ trees) ++ lines_from (j + 1) methods) of (lines_of b later (map (tree_line j) (Do node word ∷ trees) ++ lines_from (j + 1) methods) e)) in
       let after : Skipped m (first_of m (suc (suc n)) later) (lines_from (j + 1) methods) = skip later j rest.0 methods m (suc n) before filled.1 (numbered_on b later n is) rest.1 in
-      record {
-        n = after.n;
-        later = after.later;
-        first_is = ap (λ (r : Bool). if r then suc n else first_of m (suc n + 1) later) (ap (λ (i : ℕ). i == m) of ∙ eq_no j m before) ∙ ap (λ (k : ℕ). first_of m k later) (next n) ∙ after.first_is;
-        later_is = after.later_is;
-        filled = after.filled;
-        lines = after.lines;
-      }
-    where
-      next : (n : ℕ) → suc n + 1 ≡ suc (suc n)
-      next n = omega arith
+      passed m n b later (lines_from (j + 1) methods) (ap (λ (i : ℕ). i == m) of ∙ eq_no j m before) after
 
   -- at its first line the method begins
   at_first : (later : List Block) (i : ℕ) (body : List Tree) (tail : List Line) (n : ℕ) → ends_in_return false body ≡ true → AreFilled later → Numbered n later → flat_map block_lines later ≡ map (tree_line i) body ++ tail → Start (first_of i (suc n) later) i body

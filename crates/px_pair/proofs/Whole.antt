@@ -1,5 +1,5 @@
 -- A whole call at two ends does what its code does on one heap.
-use Rattle.std.proofs.Common.{◌≡◌, ℕ, zero, suc, ◌+◌, ◌≤◌, false, true, List, [], ◌∷◌, ◌++◌, length, Some, unwrap_or, refl, sym, ap, subst, ◌∙◌, arith}
+use Rattle.std.proofs.Common.{◌≡◌, ℕ, zero, suc, ◌+◌, ◌≤◌, false, true, List, [], ◌∷◌, ◌++◌, map, length, Option, Some, None, unwrap_or, refl, sym, ap, subst, ◌∙◌, arith}
 use Rattle.px_value.specs.declared.value.Value.{Value}
 use Rattle.px_value.specs.declared.value.Value.TheVariants.{Null}
 use Rattle.px_value.specs.declared.object.Object.{Object}
@@ -10,15 +10,24 @@ use Rattle.px_code.specs.declared.method.Method.{Method}
 use Rattle.px_code.specs.declared.block.Block.{Block}
 use Rattle.px_code.specs.declared.plan.Plan.{Plan}
 use Rattle.px_code.specs.CodeRun.{Ran, method_at}
-use Rattle.px_code.specs.Machine.{Machine, Threw, steps, block_at, next_block}
+use Rattle.px_code.specs.Machine.{Machine, slot_value, slots_at, value_in, Threw, steps, block_at, next_block}
 use Rattle.px_code.specs.Sound.{Ending, Finished, Fell, RunsFrom, RunsAs, CodeOutcome, run_of, entered, first_block, BlocksRun}
 use Rattle.px_code.specs.Sound as sound
-use Rattle.px_pair.specs.Agree.{Agree}
-use Rattle.px_pair.specs.Calls.{CallAgrees}
-use Rattle.px_pair.specs.Sessions.{attending, CallBegins}
-use Rattle.px_pair.specs.Whole.{CallIs, CallDoes, CallsDoAsCode}
-use Rattle.px_pair.proofs.Calls.{calls_agree}
-use Rattle.px_pair.proofs.Sessions.{calls_begin}
+use Rattle.std.specs.Option.{option_map}
+use Rattle.px_code.specs.declared.frame.Frame.{Frame}
+use Rattle.px_code.specs.declared.frame.Slot.{Slot}
+use Rattle.px_code.specs.Fits.{Fits}
+use Rattle.px_code.specs.Law.{MachineFits, StaysWithin}
+use Rattle.px_code.proofs.Staying.{stay}
+use Rattle.px_wire.specs.declared.updates.Updates.{Updates}
+use Rattle.px_half.specs.Messages.{AreUpdates}
+use Rattle.px_pair.specs.Agree.{Seen, seen, Agree}
+use Rattle.px_pair.specs.Law.{NamesClasses}
+use Rattle.px_pair.specs.Calls.{CallAgrees, IsGoodBlock, AreGoodBlocks}
+use Rattle.px_pair.specs.Sessions.{Rest, attending, CallBegins, IsKept}
+use Rattle.px_pair.specs.Whole.{CallIs, CallDoes, CallsDoAsCode, IsCommitted, CommitsAs, CommitsAsCode}
+use Rattle.px_pair.proofs.Calls.{calls_agree, next_fits}
+use Rattle.px_pair.proofs.Sessions.{calls_begin, commits_keep}
 use Rattle.px_pair.proofs.Good.{cut_is_good}
 use Rattle.px_pair.proofs.Entries.{entries_fit}
 use Rattle.px_pair.proofs.Good.{each_at}
@@ -79,6 +88,10 @@ method_there [] (suc n) m e = cc
 method_there (x ∷ methods) (suc zero) m e = omega arith
 method_there (x ∷ methods) (suc (suc n)) m e = let below = method_there methods (suc n) m e in omega (arith, below)
 
+returning : (methods : List Method) (n : ℕ) (m : Method) → AllByRecursion (λ (x : Method). ends_in_return false x.body ≡ true) methods → method_at methods n ≡ Some m → ends_in_return false m.body ≡ true
+returning methods zero m all e = cc
+returning methods (suc n) m all e = each_at (λ (x : Method). ends_in_return false x.body ≡ true) methods n m all e
+
 pub calls_do_as_code : CallsDoAsCode
 calls_do_as_code plan app db one method args rest served last last_near last_far ran ending both =
     let slots_are : types_of (method_at plan.code.methods method) ≡ served.input.method.slots = ap types_of served.input.is.is in
@@ -87,7 +100,63 @@ calls_do_as_code plan app db one method args rest served last last_near last_far
     does plan (entered plan.code one method args) method last last_near last_far ran ending (run_of plan.code one method args)
     (calls_agree plan served.names (cut_is_good plan served.blocks served.no_literal served.return) App last (entered plan.code app method args) (attending db) last_near last_far (first_block plan method) ran ending both (entered plan.code one method args) begins.agree begins.can_tell.like served.input.fits (entries_fit plan one method args served.blocks served.input))
     (blocks_run_as_code plan one method args served.input.method served.blocks served.input.is.is (returning plan.code.methods method served.input.method served.return served.input.is.is) served.inside served.room)
+
+-- ---- a commit
+
+module _ (plan : Plan) (names : NamesClasses plan.code) (good : AreGoodBlocks plan) where
+  -- the heap fits its code where blocks have run
+  run_fits : (n : ℕ) (m last : Machine) (ran : List Ran) (ending : Ending) → RunsFrom plan.blocks.blocks n m ran ending last → Fits plan.code m.heap → ((b : Block) → block_at plan.blocks.blocks n ≡ Some b → MachineFits plan.code b.method m) → Fits plan.code last.heap
+  run_fits _ m _ _ _ sound.finished fits machine = fits
+  run_fits n m last _ ending (sound.runs {b = b} {ran = ran} is going after) fits machine =
+      let g : IsGoodBlock plan b = good n b is in
+      let stays : StaysWithin plan.code b.method m (steps b.statements m) = stay plan.code b.method b.statements m g.are g.plain (machine b is) in
+      run_fits (next_block b.exit (steps b.statements m).stop) (steps b.statements m).machine last ran ending after stays.heap (next_fits plan names good b g m (steps b.statements m).machine (steps b.statements m).stop stays.machine)
+  run_fits n m _ _ _ (sound.falls {b = b} is fell) fits machine =
+      let g : IsGoodBlock plan b = good n b is in
+      (stay plan.code b.method b.statements m g.are g.plain (machine b is)).heap
+
+-- frames that are seen alike have the same values
+same_value : (x y : Option Slot) → option_map (λ (s : Slot). s.value) x ≡ option_map (λ (s : Slot). s.value) y → slot_value x ≡ slot_value y
+same_value None None e = refl
+same_value None (Some y) e = cc
+same_value (Some x) None e = cc
+same_value (Some x) (Some y) e = cc
+
+low_value : (fs gs : List Frame) → map seen fs ≡ map seen gs → value_in (slots_at fs 0) 0 ≡ value_in (slots_at gs 0) 0
+low_value [] [] e = refl
+low_value [] (g ∷ gs) e = cc
+low_value (f ∷ fs) [] e = cc
+low_value (f ∷ fs) (g ∷ gs) e = let same : seen f ≡ seen g = cc in by_slots f.slots g.slots (ap (λ (s : Seen). s.values) same)
   where
-    returning : (methods : List Method) (n : ℕ) (m : Method) → AllByRecursion (λ (x : Method). ends_in_return false x.body ≡ true) methods → method_at methods n ≡ Some m → ends_in_return false m.body ≡ true
-    returning methods zero m all e = cc
-    returning methods (suc n) m all e = each_at (λ (x : Method). ends_in_return false x.body ≡ true) methods n m all e
+    by_slots : (xs ys : List Slot) → map (λ (s : Slot). s.value) xs ≡ map (λ (s : Slot). s.value) ys → value_in xs 0 ≡ value_in ys 0
+    by_slots [] [] e = refl
+    by_slots [] (y ∷ ys) e = cc
+    by_slots (x ∷ xs) [] e = cc
+    by_slots (x ∷ xs) (y ∷ ys) e = cc
+
+committed : (plan : Plan) (begin near far : Machine) (method : ℕ) (u : Updates) (heap : List Object) (ran that_ran : List Ran) (reply : Value) → CallIs plan App near far heap ran that_ran Finished Finished reply → Fits plan.code heap → AreUpdates (Some plan) (length near.heap) near u → IsCommitted plan near far u heap ran that_ran reply
+committed plan begin near far method u heap ran that_ran reply call fits are =
+    let kept : IsKept plan near far call.one u = commits_keep plan near far call.one u call.agree (subst (λ (h : List Object). Fits plan.code h) (sym call.heap_is) fits) are in
+    record {
+      machine = kept.machine;
+      taken = kept.taken;
+      rest = subst (λ (h : List Object). Rest plan near.heap kept.machine.heap h) call.heap_is kept.rest;
+      fits = fits;
+      reply_is = low_value near.frames call.one.frames call.agree.frames ∙ call.reply_is;
+      ran_is = call.ran_is;
+    }
+
+commits : (plan : Plan) (begin near far : Machine) (method : ℕ) (u : Updates) (ran : List Ran) (o : CodeOutcome) → CallDoes plan App near far ran Finished o → BlocksRun plan begin method o → ((last : Machine) (rs : List Ran) (ending : Ending) → RunsFrom plan.blocks.blocks (first_block plan method) begin rs ending last → Fits plan.code last.heap) → AreUpdates (Some plan) (length near.heap) near u → CommitsAs plan near far u ran o
+commits plan begin near far method u ran (Gives x s) call run fits are = committed plan begin near far method u s.shared.heap ran s.ran (unwrap_or x Null) call (subst (λ (h : List Object). Fits plan.code h) run.heap_is (fits run.last s.ran Finished run.runs)) are
+commits plan begin near far method u ran (Throws t s) call run fits are = absurd (other_end call.ending_is)
+  where
+    other_end : Finished ≡ Fell t → ⊥
+    other_end e = cc
+commits plan begin near far method u ran (Asks q) call run fits are = absurd q
+
+pub commits_as_code : CommitsAsCode
+commits_as_code plan app db one method args rest served near far ran both u are =
+    commits plan (entered plan.code one method args) near far method u ran (run_of plan.code one method args)
+    (calls_do_as_code plan app db one method args rest served App near far ran Finished both)
+    (blocks_run_as_code plan one method args served.input.method served.blocks served.input.is.is (returning plan.code.methods method served.input.method served.return served.input.is.is) served.inside served.room)
+    (λ last rs ending run. run_fits plan served.names (cut_is_good plan served.blocks served.no_literal served.return) (first_block plan method) (entered plan.code one method args) last rs ending run served.input.fits (entries_fit plan one method args served.blocks served.input)) are

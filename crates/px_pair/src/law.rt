@@ -2,7 +2,7 @@
 ghost use Rattle.px_pair.specs.Law.{BlocksRunAlike};
 ghost use Rattle.px_pair.specs.Crossing.{StepsKeepStacks, StepsCanTell, ControlCrosses};
 ghost use Rattle.px_pair.specs.Calls.{CallsAgree};
-ghost use Rattle.px_pair.specs.Whole.{CallsDoAsCode};
+ghost use Rattle.px_pair.specs.Whole.{CallsDoAsCode, CommitsAsCode};
 ghost use Rattle.px_pair.specs.Good.{CutIsGood, EntriesFit, BlocksRunAsCode};
 ghost use Rattle.px_pair.specs.Fresh.{NothingStale, CommitsLeaveFresh};
 ghost use Rattle.px_pair.specs.Sessions.{NewRests, CallsBegin, CommitsKeep};
@@ -75,4 +75,9 @@ pub fn calls_do_as_code()
 /// Blocks that are cut from code, one after the other, do what a call of a method does: the same statements run, with the same reads and writes, and the reply, the throw and the heap are the same.
 pub fn blocks_run_as_code()
     ensures { BlocksRunAsCode }
+{}
+
+/// After such a call and its commit both ends have the heap that the code leaves, APP has its reply, and the next call may begin.
+pub fn commits_as_code()
+    ensures { CommitsAsCode }
 {}
