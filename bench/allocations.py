@@ -3,8 +3,9 @@
 neither status 4 with nothing written nor the one with ample memory.
 
 usage: allocations.py [--program PROGRAM] [FOLDER..]
-A FOLDER holds a program Main.java and its job; without any, these are those of examples/.
-Each program is also run with its last byte cut off, and each job with a line that is none.
+A FOLDER holds a program Main.java and its jobs; without any, these are those of examples/. `run` takes
+the file `job`, and `solo` each file `job` and `job-WORD`. Each program is also run with its last byte cut
+off, and each job with a line that is none.
 """
 
 import argparse
@@ -17,13 +18,15 @@ import tempfile
 ROOT = pathlib.Path(__file__).resolve().parent.parent
 
 
-def pairs(folder):
-    """The folder's program and job, and the two with a fault each."""
+def cases(folder):
+    """A command with the folder's program and a job, and with the two with a fault each."""
     program = (folder / 'Main.java').read_bytes()
-    job = (folder / 'job').read_bytes()
-    yield program, job
-    yield program.rstrip()[:-1], job
-    yield program, job + b'nonsense\n'
+    for path in sorted(folder.glob('job*')):
+        job = path.read_bytes()
+        for command in ('run', 'solo') if path.name == 'job' else ('solo',):
+            yield command, program, job
+            yield command, program.rstrip()[:-1], job
+            yield command, program, job + b'nonsense\n'
 
 
 def run(program, words, shim, number):
@@ -44,8 +47,8 @@ def main():
         source = ROOT / 'bench/failing_malloc.c'
         subprocess.run(['cc', '-shared', '-fPIC', '-O1', '-o', shim, source], check=True)
         for folder in folders:
-            for program, job in pairs(folder):
-                words = ['run', f'{at}/program', f'{at}/job']
+            for command, program, job in cases(folder):
+                words = [command, f'{at}/program', f'{at}/job']
                 for name, text in zip(words[1:], (program, job)):
                     pathlib.Path(name).write_bytes(text)
                 ample = run(given.program, words, shim, 0)[:2]
@@ -56,7 +59,7 @@ def main():
                     refused += (status, text) == (4, b'')
                     if (status, text) not in ((4, b''), ample):
                         wrong += 1
-                        print(f'{folder}: allocation {number}: status {status}, {text!r}')
+                        print(f'{command} {folder}: allocation {number}: status {status}, {text!r}')
                     number += 1
     print(f'{tried} failing allocations: {refused} times status 4, {wrong} wrong answers')
     return wrong > 0

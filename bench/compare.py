@@ -1,6 +1,8 @@
 """Runs the built program and the reference on the same files and prints where they differ.
 
-    compare.py [--seed N] [--programs N] [--mutants N] [--only GROUP] [--program PATH]
+    compare.py [--command run|solo] [--seed N] [--programs N] [--mutants N] [--only GROUP] [--corpus FOLDER] [--program PATH]
+
+A FOLDER has a folder for each case, with the files `program` and `job`.
 """
 import argparse
 import collections
@@ -14,25 +16,26 @@ import sys
 import tempfile
 
 import reference as plain
+import solo
 
 HERE = os.path.dirname(os.path.abspath(__file__))
-# Cases with files `program` and `job`, if the folder is there.
-CORPUS = os.path.join(HERE, "..", "..", "shared", "corpus", "r1")
+REFERENCES = {"run": plain.reference, "solo": solo.reference}
 WORKED = (b"class Main { long n; public long add(long x) { long y = x * 3; n = n + y; return n - 1; } }\n",
           b"call 1 add 4\ncall 1 add -9223372036854775808\n")
+SPLIT = (b"class Main {\nlong a;\nlong b;\npublic long f(long x) {\nlong y = x * 3;\nb = a + y;\nreturn b;\n}\nvoid g() {\n}\n}\n",
+         b"part p upto 1000\ndb all\napp line 6\napp field Main.b\ncall 1 f 4\ncall 1 f -5\n")
 ODD_BYTES = [b"\0", b"\t", b"\r", b"\n", b'"', b"\\", b"/", b"*", b"{", b"9", b"\x7f", b"\x80", b"\xff"]
 
 
 # ---- fixed cases ----------------------------------------------------------------------------------
 
-def corpus_cases():
-    for name in sorted(os.listdir(CORPUS)) if os.path.isdir(CORPUS) else []:
-        files = [open(os.path.join(CORPUS, name, part), "rb").read() for part in ("program", "job")]
+def corpus_cases(folder):
+    for name in sorted(os.listdir(folder)) if folder else []:
+        files = [open(os.path.join(folder, name, part), "rb").read() for part in ("program", "job")]
         yield "corpus", *files
 
 
-def worked_cases():
-    program, job = WORKED
+def worked_cases(program, job):
     for end in range(len(program) + 1):
         yield "prefix", program[:end], job
     for end in range(len(job) + 1):
@@ -44,6 +47,35 @@ def worked_cases():
         for at in range(len(job)):
             yield "odd byte", program, job[:at] + odd + job[at + 1:]
             yield "odd byte put in", program, job[:at] + odd + job[at:]
+
+
+def side_cases():
+    """Lines about a part, behind none, alone, and with others."""
+    program, job = SPLIT
+    part, sides, calls = b"part p upto 1000\n", b"db all\n", b"call 1 f 4\n"
+    for line in PART_LINES:
+        for end in (b"\n", b"", b"\r\n", b" \r\n", b"\r\r\n"):
+            yield "handmade part", program, line + end
+            yield "handmade part", program, part + line + end
+            yield "handmade part", program, calls + line + end + sides + calls
+            yield "handmade part", program, part + sides + b"app " + line[3:] + end + calls
+        yield "handmade part", program, part + line + b"\nload 1 5\n"
+        yield "handmade part", program, part + b"db line 1\n" + line + b"\n"
+        yield "handmade part", program, part + b"   " + line.replace(b" ", b"   ") + b"   \n" + calls
+        yield "handmade part", program, part + line.replace(b" ", b"\t") + b"\n"
+
+
+PART_LINES = [line.encode("latin-1") for line in [
+    "part p upto 1000", "part p upto 0", "part p upto 999", "part p upto 1001", "part p upto 01000", "part p upto 18446744073709551616", "part p upto 99999999999999999999999",
+    "part p upto -1", "part p upto -0", "part p upto +1", "part p upto x", "part p upto", "part p 1000", "part upto 1000", "part p", "part", "part if upto 1000", "part true upto 1000",
+    "part upto upto 1000", "part budget upto 1000", "part p upto budget 4", "part p upto 1000 budget 5", "part p upto 1000 budget", "part p upto 5 budget 5", "part p upto x budget y", "part p upto 1000 budgets 5",
+    "part p upto 1000 5", "part p upto 1000 5 budget", "part p upto 1000 # c", "part p up 1000", "part 9 upto 1000", 'part "p" upto 1000', "part p.q upto 1000", "part $_9 upto 1000", "Part p upto 1000", "parts p upto 1000",
+    "part p upto 1000\t", "part\x80", "part p upto 1000 \x80", "part p upto 1000 budget \x80", "db", "app", "db all", "app all", "db all all", "db All", "db all 5", "db \x80", "db all\x80", "DB all", "dball",
+    "db line", "db line 4", "db line 5", "db line 6", "db line 7", "db line 8", "db line 9", "db line 10", "db line 005", "db line 0", "db line -5", "db line +5", "db line x", "db line 5 6", "db line 5x",
+    "db line 18446744073709551621", "db line 4294967301", "db line 99999999999999999999999", "db method", "db method f", "db method Main.f", "db method Main.g", "db method Main.h", "db method Main.a", "db method Other.f", "db method Main.",
+    "db method .f", "db method .", "db method Main..f", "db method Main.f.g", "db method Main .f", "db method Main. f", "db method if.f", "db method Main.if", "db method Main.f Main.g", 'db method "Main.f"', "db method Main.f()",
+    "db field", "db field a", "db field Main.a", "db field Main.b", "db field Main.f", "db field Main.x", "db field Other.a", "db field this.a", "db field Main.null", "db field Main.a Main.b", "db fields Main.a", "db row Main.a",
+    "call 1 f 1", "call 1 g", "call 2 f 1", "call 1 f", "call 1 f x", "# part p upto 1000", "", "sessions 1", "order 1", "row t 1"]]
 
 
 def main_with(body, params="long x", gives="long", members="long n; "):
@@ -239,6 +271,7 @@ class Maker:
     def __init__(self, seed):
         self.r = random.Random(seed)
         self.faults = self.r.choice([0, 0, 0, 0.01, 0.03, 0.1])
+        self.most = self.r.choice([5, 5, 30])        # fewer items than this stand in a body
 
     def fault(self, weight=1.0):
         return self.r.random() < self.faults * weight
@@ -280,7 +313,7 @@ class Maker:
 
     def items(self, locals, depth, gives, last):
         r, made, locals = self.r, [], list(locals)
-        for _ in range(r.randrange(5)):
+        for _ in range(r.randrange(5) if depth else r.randrange(self.most)):
             kind = r.random()
             if kind < 0.3:
                 name = self.name(locals)
@@ -314,7 +347,7 @@ class Maker:
 
     def program(self):
         r = self.r
-        self.fields, self.entries = [], []
+        self.fields, self.methods, self.entries = [], [], []
         for _ in range(r.randrange(5)):
             self.fields.append(self.name(self.fields))
         members = [(["public"], ["private"], [], [])[r.randrange(4)] + ["long", name, ";"] for name in self.fields]
@@ -333,6 +366,7 @@ class Maker:
             head += [")"] + (["throws", "SQLException" if not self.fault() else r.choice(NAMES)] if r.random() < 0.15 else [])
             must = gives or r.random() < 0.3
             members.append(head + ["{"] + self.items(params, 0, gives, must) + ["}"])
+            self.methods.append(name)
             if mod == ["public"]:
                 self.entries.append((name, len(params)))
         if r.random() < 0.5:
@@ -349,7 +383,7 @@ class Maker:
     def deep_program(self):
         """One method whose nesting comes close to the limit, in a mix of kinds."""
         r = self.r
-        self.fields, self.entries = ["n"], [("f", 1)]
+        self.fields, self.methods, self.entries = ["n"], ["f"], [("f", 1)]
         goal = r.randrange(94, 104)
         kinds = r.choice(["(", "-", "+", ".", "(-", "(+", "-+", "(-+.", "(-+.*", "*", "+*", "(.", "({"])
         depth, open_blocks, front, back = 1, 0, [], []
@@ -450,12 +484,36 @@ class Maker:
         end = r.choice(["\n", "\n", "\n", "\r\n"])
         return (end.join(lines) + (end if r.random() < 0.7 else "")).encode("latin-1")
 
+    def part(self, program):
+        """A part for a program, with sides of what it has."""
+        r = self.r
+        name = r.choice(NAMES if not self.fault() else ["if", "9", ""])
+        upto = "1000" if not self.fault() else r.choice(["999", "1001", "x", ""])
+        lines, selectors = [f"part {name} upto {upto}"], [["all"], ["all"]]
+        for kind, names in (("line", statement_lines(program) * 2), ("method", self.methods), ("field", self.fields * 2)):
+            selectors += [[kind, name if kind == "line" else "Main." + name] for name in names]
+        for _ in range(r.choice([0, 1, 2, 4, 8, 16])):
+            selector = r.choice(selectors)
+            if self.fault():
+                selector = r.choice([selector + ["x"], selector[:-1], ["line", str(r.randrange(20))], ["method", "Main." + r.choice(NAMES)], ["field", r.choice(NAMES)], [r.choice(NAMES)]])
+            lines.append(" ".join([r.choice(["db", "db", "app"] if not self.fault(0.5) else ["part", "Db", "call", "order"])] + selector))
+        return "\n".join(lines).encode()
+
     def job_value(self):
         r = self.r
         if self.fault(2):
             return r.choice(["true", "false", "null", '"a"', '""', '"a b"', '"\\n"', '"\\x"', '"', '"a', "-", "+1", "1L", "x", "9223372036854775808", "-9223372036854775809", "99999999999999999999999", '"\x7f\t"', '"\x80"', "--1", "1 2", "0x1", "1.5"])
         return r.choice(["0", "1", "-1", "5", "007", "-0", "-007", "2147483647", "2147483648", "-2147483648", "9223372036854775807", "-9223372036854775808", "0000000000000000000000000000000000000007",
                          str(r.randrange(-2 ** 63, 2 ** 63)), str(r.randrange(-2 ** 33, 2 ** 33)), str(r.randrange(-100, 100))])
+
+
+def statement_lines(program):
+    """The lines of a program's normal statements, or none where it is refused."""
+    try:
+        main = plain.read_program(program)
+    except plain.Refused:
+        return []
+    return [str(line) for method in main.methods for line in {made.line for made in solo.Lowering(method).made}]
 
 
 WORDS = BUILT + NAMES + RESERVED + LITERALS + WRONG_LITERALS + FOREIGN + BAD
@@ -518,7 +576,7 @@ def mutate_bytes(r, text):
     return bytes(text)
 
 
-def made_cases(seed, programs, mutants):
+def made_cases(command, seed, programs, mutants):
     for number in range(programs):
         maker = Maker(f"{seed} {number}")
         deep = maker.r.random() < 0.25
@@ -526,6 +584,9 @@ def made_cases(seed, programs, mutants):
         program, job = maker.render(tokens), maker.job()
         if deep and maker.r.random() < 0.8:
             job = b"call 1 f 7\ncall 1 f -9223372036854775808\n"
+        if command == "solo" and maker.r.random() < 0.95:
+            texts = [maker.part(program), job]
+            job = b"\n".join(texts if maker.r.random() < 0.8 else texts[::-1])
         yield "deep" if deep else "made", program, job
         for _ in range(mutants):
             r = maker.r
@@ -541,23 +602,23 @@ def answer_of_program(program, job):
         with open(os.path.join(FOLDER, name), "wb") as file:
             file.write(text)
     try:
-        done = subprocess.run([PROGRAM, "run", os.path.join(FOLDER, "p"), os.path.join(FOLDER, "j")],
+        done = subprocess.run([PROGRAM, COMMAND, os.path.join(FOLDER, "p"), os.path.join(FOLDER, "j")],
                               stdin=subprocess.DEVNULL, capture_output=True, timeout=20)
     except subprocess.TimeoutExpired:
         return "timeout", b""
     return done.returncode, done.stdout + (b"<stderr> " + done.stderr if done.stderr else b"")
 
 
-def begin_worker(path, base):
-    global PROGRAM, FOLDER
-    PROGRAM, FOLDER = path, tempfile.mkdtemp(dir=base)
+def begin_worker(path, command, base):
+    global PROGRAM, COMMAND, REFERENCE, FOLDER
+    PROGRAM, COMMAND, REFERENCE, FOLDER = path, command, REFERENCES[command], tempfile.mkdtemp(dir=base)
 
 
 def judge(case):
     group, program, job = case
     got = answer_of_program(program, job)
     try:
-        wanted = plain.reference(program, job)
+        wanted = REFERENCE(program, job)
     except Exception as fault:
         wanted = "fault", repr(fault).encode()
     kind = "done" if wanted[0] == 0 else re.sub(rb"^(\w+) (0|\d+) ", lambda m: m[1] + (b" 0 " if m[2] == b"0" else b" N "), wanted[1]).decode("latin-1").strip()
@@ -571,7 +632,7 @@ def judge(case):
 def smaller(program, job):
     """Takes bytes out as long as the two still differ in the same way."""
     def way(p, j):
-        got, wanted = answer_of_program(p, j), plain.reference(p, j)
+        got, wanted = answer_of_program(p, j), REFERENCE(p, j)
         return None if got == wanted else (got[0], got[1].split(b" ")[-1], wanted[0], wanted[1].split(b" ")[-1])
     first = way(program, job)
     files = [program, job]
@@ -592,19 +653,23 @@ def smaller(program, job):
 
 def main():
     options = argparse.ArgumentParser()
+    options.add_argument("--command", choices=REFERENCES, default="run")
     options.add_argument("--seed", default="1")
     options.add_argument("--programs", type=int, default=4000)
     options.add_argument("--mutants", type=int, default=1)
     options.add_argument("--only", default="")
+    options.add_argument("--corpus", default="")
     options.add_argument("--program", default=os.path.join(HERE, "..", "crates", "px_main", "out", "px_main"))
     chosen = options.parse_args()
-    groups = {"corpus": corpus_cases, "small": small_cases, "worked": worked_cases, "limits": limit_cases, "handmade": handmade_cases,
-              "made": lambda: made_cases(chosen.seed, chosen.programs, chosen.mutants)}
+    groups = {"corpus": lambda: corpus_cases(chosen.corpus), "small": small_cases, "worked": lambda: worked_cases(*WORKED), "limits": limit_cases,
+              "handmade": handmade_cases, "made": lambda: made_cases(chosen.command, chosen.seed, chosen.programs, chosen.mutants)}
+    if chosen.command == "solo":
+        groups |= {"split": lambda: worked_cases(*SPLIT), "sides": side_cases}
     cases = (case for name, make in groups.items() if not chosen.only or name in chosen.only.split(",") for case in make())
     counts, kinds, seen, differing = collections.Counter(), collections.defaultdict(collections.Counter), set(), 0
     base = tempfile.mkdtemp(dir="/dev/shm" if os.path.isdir("/dev/shm") else None)
     try:
-        with multiprocessing.Pool(2, begin_worker, (chosen.program, base)) as pool:
+        with multiprocessing.Pool(2, begin_worker, (chosen.program, chosen.command, base)) as pool:
             for group, kind, difference in pool.imap_unordered(judge, cases, 8):
                 counts[group] += 1
                 kinds[group][kind] += 1
@@ -614,10 +679,10 @@ def main():
                 if difference in seen or len(seen) > 60:
                     continue
                 seen.add(difference)
-                begin_worker(chosen.program, base)
+                begin_worker(chosen.program, chosen.command, base)
                 print("DIFFERS", group, *(repr(text[:1500]) for text in difference), sep="\n   ")
                 print("    program  ", repr(answer_of_program(*difference))[:400])
-                print("    reference", repr(plain.reference(*difference))[:400], flush=True)
+                print("    reference", repr(REFERENCE(*difference))[:400], flush=True)
     finally:
         shutil.rmtree(base)
     for group, count in counts.items():

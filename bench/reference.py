@@ -23,7 +23,9 @@ order""".split())
 
 Token = namedtuple("Token", "kind text line")       # kind: id, key, number, string, sign, bad, end
 Class = namedtuple("Class", "name fields methods")
-Method = namedtuple("Method", "public name gives params body tokens")
+Method = namedtuple("Method", "public name line gives params body tokens")
+
+# A statement and an expression are tuples: what it is, its parts, and last the line of its first token.
 
 
 class Refused(Exception):
@@ -95,6 +97,9 @@ class Parser:
     def next_text(self):
         return self.tokens[self.at].text
 
+    def line(self):
+        return self.tokens[self.at].line
+
     def sees(self, text):
         return self.next_text() == text
 
@@ -131,7 +136,7 @@ class Parser:
         void = self.take_if(b"void")
         if not void:
             self.take(b"long")
-        name = self.take(kind="id").text
+        line, name = self.line(), self.take(kind="id").text
         if not void and self.take_if(b";"):
             fields.append(name)
             return
@@ -145,13 +150,14 @@ class Parser:
         if self.take_if(b"throws"):
             self.take(b"SQLException")
         body = self.block()
-        methods.append(Method(public, name, not void, params, body, self.at - start))
+        methods.append(Method(public, name, line, not void, params, body, self.at - start))
 
     def param(self):
         self.take(b"long")
         return self.take(kind="id").text
 
     def block(self):
+        line = self.line()
         self.depth += 1
         self.take(b"{")
         items = []
@@ -159,89 +165,91 @@ class Parser:
             items.append(self.item())
         self.take(b"}")
         self.depth -= 1
-        return ("block", items)
+        return ("block", items, line)
 
     def item(self):
+        line = self.line()
         if not self.take_if(b"long"):
             return self.statement()
         name = self.take(kind="id").text
         self.take(b"=")
         value = self.expression()
         self.take(b";")
-        return ("local", name, value)
+        return ("local", name, value, line)
 
     def statement(self):
-        outside = self.depth
+        outside, line = self.depth, self.line()
         self.depth += 1
         if self.sees(b"{"):
             made = self.block()
         elif self.take_if(b";"):
-            made = ("empty",)
+            made = ("empty", line)
         elif self.take_if(b"return"):
             value = None if self.sees(b";") else self.expression()
             self.take(b";")
-            made = ("return", value)
+            made = ("return", value, line)
         else:
             if self.take_if(b"this"):
                 self.depth += 1                      # the dot counts to the end of the statement
                 self.take(b".")
-                place = ("field", self.take(kind="id").text)
+                place = ("field", self.take(kind="id").text, line)
             else:
-                place = ("name", self.take(kind="id").text)
+                place = ("name", self.take(kind="id").text, line)
             self.take(b"=")
             value = self.expression()
             self.take(b";")
-            made = ("assign", place, value)
+            made = ("assign", place, value, line)
         self.depth = outside
         return made
 
     def expression(self):
-        outside = self.depth
+        outside, line = self.depth, self.line()
         self.depth += 1
         left = self.product()
         while self.next_text() in (b"+", b"-"):
             self.depth += 1                          # an operator counts to the end of the expression
             sign = self.take().text
-            left = ("binary", sign, left, self.product())
+            left = ("binary", sign, left, self.product(), line)
         self.depth = outside
         return left
 
     def product(self):
+        line = self.line()
         left = self.prefixed()
         while self.sees(b"*"):
             self.depth += 1
             sign = self.take().text
-            left = ("binary", sign, left, self.prefixed())
+            left = ("binary", sign, left, self.prefixed(), line)
         return left
 
     def prefixed(self):
         if not self.sees(b"-"):
             return self.primary(False)
         self.depth += 1
-        self.take()
+        line = self.take().line
         value = self.primary(True) if not self.sees(b"-") else self.prefixed()
         self.depth -= 1                              # a dot in the operand counts on
-        return ("minus", value)
+        return ("minus", value, line)
 
     def primary(self, after_minus):
         token = self.tokens[self.at]
         if token.kind == "number":
             self.take()
-            return ("number", token.text, after_minus)
+            return ("number", token.text, after_minus, token.line)
         if token.kind == "id":
             self.take()
-            return ("name", token.text)
+            return ("name", token.text, token.line)
         if token.text == b"this":
             self.take()
             if not self.sees(b"."):
-                return ("this",)
+                return ("this", token.line)
             self.depth += 1
             self.take(b".")
-            return ("field", self.take(kind="id").text)
+            return ("field", self.take(kind="id").text, token.line)
         self.take(b"(")
         value = self.expression()
         self.take(b")")
-        return ("group", value)
+        return ("group", value, token.line)
 
 
 # ---- type rules ---------------------------------------------------------------------------------
@@ -352,26 +360,30 @@ def read_job(job, main):
     for number, line, _ in job_lines(job):
         if line.lstrip(b" ").split(b" ")[0] in OTHER_JOB_WORDS:
             raise Refused(number, "Later")
-    entries = {method.name: method for method in main.methods if method.public}
     calls = []
     for number, line, plain in job_lines(job):
-        call = read_call(line) if plain else None
-        if call is None:
-            raise Refused(number, "J1")
-        session, entry, values = call
-        if session != 1:
-            raise Refused(number, "J5")
-        if entry not in entries:
-            raise Refused(number, "J10")
-        method = entries[entry]
-        if len(values) != len(method.params):
-            raise Refused(number, "J11")
-        if any(value is None or not -2 ** 63 <= value < 2 ** 63 for value in values):
-            raise Refused(number, "J12")
-        if len(calls) == CALLS:
-            raise Refused(number, "J18")
-        calls.append((method, values))
+        calls.append(judged_call(number, line, plain, main, len(calls)))
     return calls
+
+
+def judged_call(number, line, plain, main, before):
+    """The method and the arguments of a line that is a call behind so many calls."""
+    call = read_call(line) if plain else None
+    if call is None:
+        raise Refused(number, "J1")
+    session, entry, values = call
+    if session != 1:
+        raise Refused(number, "J5")
+    method = next((method for method in main.methods if method.public and method.name == entry), None)
+    if method is None:
+        raise Refused(number, "J10")
+    if len(values) != len(method.params):
+        raise Refused(number, "J11")
+    if any(value is None or not -2 ** 63 <= value < 2 ** 63 for value in values):
+        raise Refused(number, "J12")
+    if before == CALLS:
+        raise Refused(number, "J18")
+    return method, values
 
 
 def read_call(line):
@@ -415,7 +427,7 @@ def evaluate(e, locals, fields):
     if kind == "minus":
         value, long = evaluate(e[1], locals, fields)
         return wrapped(-value, long), long
-    (left, left_long), (right, right_long) = (evaluate(part, locals, fields) for part in e[2:])
+    (left, left_long), (right, right_long) = (evaluate(part, locals, fields) for part in e[2:4])
     long = left_long or right_long
     value = left + right if e[1] == b"+" else left - right if e[1] == b"-" else left * right
     return wrapped(value, long), long
@@ -458,8 +470,13 @@ def run(main, calls):
     lines = ["calls"]
     for number, (method, values) in enumerate(calls, 1):
         lines.append(f"call 1 {number} {reply(method, values, fields)}")
+    return text_of(lines, fields)
+
+
+def text_of(lines, fields):
+    """The lines, and what the calls leave."""
     cells = "".join(f" {value}" for value in fields.values())
-    lines += ["tables", "heaps", "heap 1", "0 Main" + cells, "done"]
+    lines = lines + ["tables", "heaps", "heap 1", "0 Main" + cells, "done"]
     return "".join(line + "\n" for line in lines).encode()
 
 
@@ -476,7 +493,7 @@ def read_program(program):
     return main
 
 
-def reference(program, job):
+def reference(program, job, read_job=read_job, run=run):
     try:
         main = read_program(program)
     except Refused as refused:

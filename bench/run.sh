@@ -3,26 +3,7 @@
 # it and four times it: the processor's seconds of each, the least of fifteen runs, and what each
 # doubling costs.
 set -eu
-program=$(realpath "${1:-$(dirname "$0")/../crates/px_main/out/px_main}")
-cd "$(mktemp -d)"
-trap 'rm -rf "$PWD"' EXIT
-
-# A text, some times over.
-repeat() { yes -- "$1" | head -n "$2" | tr -d '\n'; }
-
-# A text over and over, of that many KiB.
-fill() { yes -- "$1" | tr -d '\n' | head -c $(($2 * 1024)); }
-
-# Lines, of that many KiB.
-lines() { yes -- "$1" | head -c $(($2 * 1024)); }
-
-# The milliseconds of a run of the files `program` and `job`.
-once() {
-  local TIMEFORMAT='%3U %3S'
-  { time "$program" run program job >text || true; } 2>&1 | awk '{ print int(1000 * ($1 + $2) + 0.5) }'
-}
-
-least() { for _ in 1 2 3; do once; done | sort -n | head -n 1; }
+. "$(dirname "$0")/measure.sh"
 
 # A row: its name, what makes its files of a size, and three sizes.
 row() {
@@ -32,7 +13,7 @@ row() {
   for _ in 1 2 3 4 5; do
     for size in $3 $4 $5; do
       $2 "$size"
-      time=$(least)
+      time=$(least run job)
       [ "$time" -ge "${best[$size]:-$((time + 1))}" ] || best[$size]=$time
     done
   done

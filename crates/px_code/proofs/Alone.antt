@@ -1,11 +1,7 @@
 -- Points-to of code that allocates nothing.
-use Rattle.std.proofs.Common.{◌≡◌, ℕ, List, refl}
-use Rattle.px_code.specs.declared.side.Side.{Side}
-use Rattle.px_code.specs.declared.cell.Part.{Part}
-use Rattle.px_code.specs.declared.code.Code.{Code}
-use Rattle.px_code.specs.Places.{home}
-use Rattle.px_code.specs.Points.{Place, PointsTo, this, copied, got, put}
-use Rattle.px_code.specs.Sends.{Keeps, at_home}
+use Rattle.std.proofs.Common.{refl}
+use Rattle.px_code.specs.Points.{this, copied, got, put}
+use Rattle.px_code.specs.Sends.{at_home}
 use Rattle.px_code.specs.Law.{PointsToMainAlone, KeepsItsHome}
 
 pub alone : PointsToMainAlone

@@ -2,3 +2,4 @@ pub mod InPlace
 pub mod Alone
 pub mod Written
 pub mod Staying
+pub mod OneCut

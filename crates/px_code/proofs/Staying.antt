@@ -28,7 +28,7 @@ use Rattle.px_code.specs.CodeRun.{Ran}
 use Rattle.px_code.specs.Places.{site_kind, part_by}
 use Rattle.px_code.specs.Points.{Place, InSlot, InPart, PointsTo, copied, got, HasStatement, ReadsPart, WritesPart}
 use Rattle.px_code.specs.Points as points
-use Rattle.px_code.specs.Fits.{IsMade, IsShaped, Leads, Fits, header_at}
+use Rattle.px_code.specs.Fits.{HasFields, IsMade, IsShaped, Leads, Fits, header_at}
 use Rattle.px_code.specs.Machine.{Machine, Stop, RunsOn, Returned, Threw, Stepped, steps, step, step_ends, stop_of, then_steps, after_act, with_value, filled_if, top, top_values}
 use Rattle.px_code.specs.Sound.{IsNoReference}
 use Rattle.px_code.specs.Law.{MachineFits, IsNoLiteralReference, HasNoReference, RanWithin, StaysWithin, StepsStay}
@@ -101,6 +101,7 @@ module _ (code : Code) where
   made_on o old header counted made = record {
     kind = ap (λ (h : Header). site_kind code h.site) header ∙ made.kind ∙ ap (λ (h : Header). Some h.kind) (sym header);
     counted = counted ∙ made.counted ∙ ap (λ (h : Header). h.length) (sym header);
+    fields = subst (λ (h : Header). HasFields code h.kind (length o.cells)) (sym header) (subst (λ n. HasFields code old.header.kind n) (sym counted) made.fields);
   }
 
   pub shaped_on : (heap : List Object) (object index : ℕ) (v : Value) → IsShaped code heap → IsShaped code (written heap object index v)

@@ -1,5 +1,5 @@
 -- The meaning of normal statements on one heap, with what each statement read and wrote.
-use Rattle.std.specs.Prelude.{ℕ, zero, suc, ◌+◌, nat_eq, List, [], ◌∷◌, ◌++◌, length, map, drop, Option, Some, None, unwrap_or, slice_get, Ok, Err, if◌then◌else◌}
+use Rattle.std.specs.Prelude.{ℕ, zero, suc, nat_eq, List, [], ◌∷◌, ◌++◌, length, map, drop, Option, Some, None, unwrap_or, slice_get, Ok, Err, if◌then◌else◌}
 use Rattle.px_value.specs.declared.value.Value.{Value}
 use Rattle.px_value.specs.declared.value.Value.TheVariants.{Null, Ref}
 use Rattle.px_value.specs.declared.object.Object.{Object}
@@ -14,7 +14,7 @@ use Rattle.px_code.specs.declared.method.Method.{Method}
 use Rattle.px_code.specs.declared.method.Tree.{Tree}
 use Rattle.px_code.specs.declared.method.Tree.TheVariants.{Do}
 use Rattle.px_code.specs.declared.code.Code.{Code}
-use Rattle.px_code.specs.Act.{Slots, Act, act_of, slot_of, Acted, acted}
+use Rattle.px_code.specs.Act.{Slots, act_of, slot_of, Acted, acted}
 
 -- a statement that ran
 pub record Ran : Type 0 where

@@ -3,7 +3,6 @@ use Rattle.std.specs.Prelude.{◌≡◌, ℕ, ◌+◌, ◌==◌, Bool, true, fal
 use Rattle.std.specs.List.{AllByRecursion, flat_map}
 use Rattle.px_code.specs.declared.side.Side.{Side}
 use Rattle.px_code.specs.declared.word.Word.{Word}
-use Rattle.px_code.specs.declared.word.Word.TheVariants as w
 use Rattle.px_code.specs.declared.method.Method.{Method}
 use Rattle.px_code.specs.declared.method.Tree.{Tree}
 use Rattle.px_code.specs.declared.method.Tree.TheVariants.{Do}

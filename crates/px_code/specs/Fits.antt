@@ -1,19 +1,25 @@
 -- Heaps that have the shape that the code gives them, and references that lead where points-to says.
 use Rattle.std.specs.Prelude.{◌≡◌, ℕ, List, length, Option, Some, slice_get}
-use Rattle.px_value.specs.declared.value.Value.{Value}
+use Rattle.px_value.specs.declared.header.Kind.{Kind}
 use Rattle.px_value.specs.declared.value.Value.TheVariants.{Ref}
 use Rattle.px_value.specs.declared.object.Object.{Object}
 use Rattle.px_value.specs.declared.header.Header.{Header}
 use Rattle.px_value.specs.declared.header.Kind.TheVariants as kind
 use Rattle.px_value.specs.Heap.{cell_at, header_of}
 use Rattle.px_code.specs.declared.code.Code.{Code}
-use Rattle.px_code.specs.Places.{site_kind, part_by}
+use Rattle.px_code.specs.Places.{site_kind, part_by, fields_in}
 use Rattle.px_code.specs.Points.{Place, PointsTo, InPart}
+
+-- an object has a cell for each field of its class
+abbrev pub HasFields : Code → Kind → ℕ → Type 0
+HasFields code (kind.Object class) n = n ≡ length (fields_in (slice_get code.classes class))
+HasFields code _ n = Unit {0}
 
 -- an object is of the kind that its site makes, with as many cells as its header says
 pub record IsMade (code : Code) (o : Object) : Type 0 where
   pub kind : site_kind code o.header.site ≡ Some o.header.kind
   pub counted : length o.cells ≡ o.header.length
+  pub fields : HasFields code o.header.kind (length o.cells)
 
 -- every object is; object 0 is of Main, made at site 0
 pub record IsShaped (code : Code) (heap : List Object) : Type 0 where

@@ -7,7 +7,9 @@ pub mod Places
 pub mod Points
 pub mod Sends
 pub mod Fits
+pub mod WellFormed
 pub mod Stale
 pub mod Cut
 pub mod Sound
 pub mod Law
+pub mod OneCut

@@ -1,5 +1,5 @@
 -- Which sites the references in a slot or a part may come from: the least sets that the statements ask for (Andersen, 1994).
-use Rattle.std.specs.Prelude.{◌≡◌, ℕ, true, List, [], ◌∷◌, Option, Some, Contains}
+use Rattle.std.specs.Prelude.{◌≡◌, ℕ, true, Some, Contains}
 use Rattle.px_code.specs.declared.cell.Part.{Part}
 use Rattle.px_code.specs.declared.cell.Part.TheVariants.{Field}
 use Rattle.px_code.specs.declared.word.Operand.{Operand}
@@ -7,7 +7,6 @@ use Rattle.px_code.specs.declared.word.Operand.TheVariants.{Slot}
 use Rattle.px_code.specs.declared.word.Word.{Word}
 use Rattle.px_code.specs.declared.word.Word.TheVariants as w
 use Rattle.px_code.specs.declared.method.Method.{Method}
-use Rattle.px_code.specs.declared.method.Tree.{Tree}
 use Rattle.px_code.specs.declared.method.Tree.TheVariants.{Do}
 use Rattle.px_code.specs.declared.code.Code.{Code}
 use Rattle.px_code.specs.CodeRun.{method_at}

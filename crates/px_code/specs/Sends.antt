@@ -1,8 +1,7 @@
 -- Which cells a side keeps, and where a send has to stand.
-use Rattle.std.specs.Prelude.{◌≡◌, ℕ, ◌↔◌, ◌⊎◌, List, Option, Some, None}
+use Rattle.std.specs.Prelude.{◌≡◌, ℕ, List, Option, Some, None}
 use Rattle.px_code.specs.declared.side.Side.{Side}
 use Rattle.px_code.specs.declared.cell.Part.{Part}
-use Rattle.px_code.specs.declared.word.Operand.{Operand}
 use Rattle.px_code.specs.declared.word.Word.{Word}
 use Rattle.px_code.specs.declared.word.Word.TheVariants as w
 use Rattle.px_code.specs.declared.code.Code.{Code}

@@ -1,5 +1,5 @@
 -- A plan that may stand in the place of code.
-use Rattle.std.specs.Prelude.{◌≡◌, ℕ, ◌<◌, true, List, [], ◌∷◌, ◌++◌, length, Option, Some, None, unwrap_or, slice_get, Contains, ◌↔◌}
+use Rattle.std.specs.Prelude.{◌≡◌, ℕ, ◌<◌, true, List, [], ◌∷◌, ◌++◌, length, Option, Some, unwrap_or, slice_get, Contains, ◌↔◌}
 use Rattle.std.specs.List.{AllByRecursion}
 use Rattle.px_value.specs.declared.value.Value.{Value}
 use Rattle.px_value.specs.declared.value.Value.TheVariants.{Null, Ref}
@@ -26,7 +26,7 @@ use Rattle.px_code.specs.Sends.{Keeps}
 use Rattle.px_code.specs.Fits.{Fits, header_at}
 use Rattle.px_code.specs.CodeRun.{Ran, Traced, code_run}
 use Rattle.px_code.specs.Frames.{root_frame, entry_frame}
-use Rattle.px_code.specs.Machine.{Machine, steps, Stop, RunsOn, Returned, Threw, block_at, next_block, slots_at, value_in}
+use Rattle.px_code.specs.Machine.{Machine, steps, Threw, block_at, next_block, slots_at, value_in}
 use Rattle.px_code.specs.Cut.{AreBlocks}
 
 -- ---- what a call of an entry comes to

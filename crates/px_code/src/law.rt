@@ -1,5 +1,6 @@
 //! What holds of code, as theorems about its definitions.
 ghost use Rattle.px_code.specs.Law.{PointsToMainAlone, KeepsItsHome, StepsStay};
+ghost use Rattle.px_code.specs.OneCut.{CutIsOne};
 
 /// As long as no statement allocates, every reference leads to the object of Main: site 0.
 pub fn points_to_main_alone()
@@ -15,4 +16,9 @@ pub fn keeps_its_home()
 /// No literal in them may be a reference: points-to would miss where it leads.
 pub fn steps_stay()
     ensures { StepsStay }
+{}
+
+/// Code at a placement is cut in one way: the blocks, their sends, their exits and the first of each method.
+pub fn cut_is_one()
+    ensures { CutIsOne }
 {}

@@ -3,14 +3,12 @@ use crate::block::Blocks;
 use crate::cell::Keep;
 use crate::code::Code;
 use crate::placement::Placement;
-use crate::pyxil::Pyxil;
 use std::sync::Arc;
 
 #[derive(Drop)]
 pub struct Plan {
     pub code: Code,
     pub placement: Placement,
-    pub pyxil: Pyxil,
     pub blocks: Blocks,
     pub keep: Keep,
 }

@@ -1,5 +1,5 @@
 -- What can be told stays so.
-use Rattle.std.proofs.Common.{◌≡◌, ℕ, ℤ, zero, suc, ◌+◌, ◌-◌, ◌^◌, ◌<◌, ◌≤◌, min, Bool, true, false, List, [], ◌∷◌, ◌++◌, map, take, drop, length, Option, Some, None, unwrap_or, Ok, Err, slice_get, slice_set, refl, sym, ap, subst, ◌∙◌, arith}
+use Rattle.std.proofs.Common.{◌≡◌, ℕ, ℤ, zero, suc, ◌-◌, ◌≤◌, min, Bool, true, false, List, [], ◌∷◌, take, length, Option, Some, None, unwrap_or, Ok, Err, slice_get, slice_set, refl, ap, subst, arith}
 use Rattle.std.specs.List.{AllByRecursion}
 use Rattle.px_value.specs.declared.value.Value.{Value}
 use Rattle.px_value.specs.declared.value.Value.TheVariants as v
@@ -15,12 +15,12 @@ use Rattle.px_code.specs.declared.word.Word.TheVariants as w
 use Rattle.px_code.specs.declared.frame.Frame.{Frame}
 use Rattle.px_code.specs.declared.frame.Slot.{Slot}
 use Rattle.px_code.specs.declared.block.Statement.{Statement}
-use Rattle.px_code.specs.Act.{Slots, operand, operand_or, act_of, slot_of, at_object, Reads, Writes, comes, Acted, acted, value_at}
+use Rattle.px_code.specs.Act.{Slots, operand, operand_or, act_of, at_object, Reads, Writes, comes, Acted, acted, value_at}
 use Rattle.px_code.specs.CodeRun.{given}
-use Rattle.px_code.specs.Machine.{Machine, slots_in, slots_at, value_in, slot_value, top, top_values, just_written, with_slot_in, filled, filled_if, answered, returned, with_value, after_act, sent, Stop, RunsOn, Returned, Threw, Stepped, step, step_of, step_ends, steps, then_steps, also_ran}
+use Rattle.px_code.specs.Machine.{Machine, slots_at, value_in, top, top_values, just_written, with_slot_in, filled, filled_if, answered, with_value, after_act, Stop, RunsOn, Returned, Threw, Stepped, step, step_ends, steps, then_steps}
 use Rattle.px_wire.specs.Fitting.{HasShortText}
 use Rattle.px_half.specs.Messages.{IsTellableFrame, IsTellableHeap, IsTellable}
-use Rattle.px_half.specs.Law.{IsShortOperand, IsShortOption, IsShortWord, AreShort, StepsStayTellable}
+use Rattle.px_half.specs.Law.{IsShortOperand, IsShortWord, StepsStayTellable}
 use Rattle.px_half.proofs.Telling.{AllShort, cell_short}
 
 -- ---- lists

@@ -1,5 +1,5 @@
 -- What can be told at the begin of a call, and after a message.
-use Rattle.std.proofs.Common.{◌≡◌, ℕ, zero, suc, ◌+◌, ◌-◌, ◌^◌, ◌<◌, ◌≤◌, Bool, true, false, List, [], ◌∷◌, ◌++◌, map, take, drop, length, replicate, Option, Some, None, Result, slice_get, refl, sym, ap, subst, ◌∙◌, arith, if◌then◌else◌}
+use Rattle.std.proofs.Common.{◌≡◌, ℕ, zero, suc, ◌^◌, ◌≤◌, Bool, true, false, List, [], ◌∷◌, ◌++◌, map, take, drop, length, replicate, Option, Some, None, slice_get, refl, sym, subst, arith, if◌then◌else◌}
 use Rattle.std.specs.List.{AllByRecursion}
 use Rattle.std.specs.Option.{option_map, option_and_then}
 use Rattle.std.proofs.lemmas.List.{length-append, length-map, length-drop}
@@ -20,8 +20,8 @@ use Rattle.px_code.specs.declared.frame.Slot.{Slot}
 use Rattle.px_code.specs.declared.plan.Plan.{Plan}
 use Rattle.px_code.specs.CodeRun.{method_at}
 use Rattle.px_code.specs.Slots.{settled, all_settled}
-use Rattle.px_code.specs.Frames.{blank, root_slots, root_frame, types_of, entry_slots, entry_frame}
-use Rattle.px_code.specs.Machine.{Machine, just_written, filled}
+use Rattle.px_code.specs.Frames.{blank, types_of, entry_frame}
+use Rattle.px_code.specs.Machine.{just_written, filled}
 use Rattle.px_wire.specs.declared.frame.Frame.{Frame as FrameTold}
 use Rattle.px_wire.specs.declared.slot.SlotAt.{SlotAt}
 use Rattle.px_wire.specs.declared.cell.CellAt.{CellAt}
@@ -30,12 +30,12 @@ use Rattle.px_wire.specs.declared.transfer.Transfer.{Transfer as TransferTold}
 use Rattle.px_wire.specs.declared.message.Message.{Message}
 use Rattle.px_wire.specs.declared.message.Message.TheVariants.{Transfer, Commit}
 use Rattle.px_wire.specs.Fitting.{HasShortText, HasSpelling, UpdatesHaveSpelling}
-use Rattle.px_half.specs.End.{End, plan_at, methods_in, class_defaults, fields_of, begun}
-use Rattle.px_half.specs.Messages.{IsTellableFrame, IsTellableHeap, IsTellable}
-use Rattle.px_half.specs.Absorbed.{new_cells, new_object, element_type, header_fits, with_news, cells_fit, if_cells_fit, with_room, with_cells, with_updates, blank_slots, blank_frame, with_slots, settled_frame, with_frames, stack_fits, slots_fit, in_control, transferred, with_transfer, after_commit, after_transfer, absorbed, absorbed_by}
+use Rattle.px_half.specs.End.{End, plan_at, methods_in, fields_of}
+use Rattle.px_half.specs.Messages.{IsTellableFrame, IsTellable}
+use Rattle.px_half.specs.Absorbed.{new_cells, new_object, element_type, header_fits, with_news, cells_fit, if_cells_fit, with_room, with_cells, with_updates, blank_slots, blank_frame, with_slots, settled_frame, with_frames, stack_fits, slots_fit, in_control, transferred, with_transfer, after_commit, after_transfer, absorbed_by}
 use Rattle.px_half.specs.Law.{HasFewSlots, BeginIsTellable, AbsorbedIsTellable}
 use Rattle.px_half.proofs.Telling.{AllShort}
-use Rattle.px_half.proofs.Tellable.{all_at, all_take, set_length, AllFrames, written_short, filled_tellable}
+use Rattle.px_half.proofs.Tellable.{all_at, all_take, AllFrames, written_short, filled_tellable}
 
 -- ---- defaults
 

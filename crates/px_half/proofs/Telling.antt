@@ -1,16 +1,16 @@
 -- What an end tells has a spelling.
-use Rattle.std.proofs.Common.{◌≡◌, ℕ, zero, suc, ◌+◌, ◌*◌, ◌^◌, ◌<◌, ◌≤◌, ◌⊎◌, inl, inr, Bool, true, false, List, [], ◌∷◌, ◌++◌, map, drop, length, Option, Some, None, slice_get, refl, sym, ap, subst, ◌∙◌, arith}
+use Rattle.std.proofs.Common.{◌≡◌, ℕ, zero, suc, ◌+◌, ◌*◌, ◌^◌, ◌<◌, ◌≤◌, ◌⊎◌, inl, inr, Bool, true, false, List, [], ◌∷◌, ◌++◌, map, drop, length, Option, Some, slice_get, refl, sym, ap, subst, arith}
 use Rattle.std.specs.Bool.{⊤}
 use Rattle.std.proofs.lemmas.List.{length-append, length-map, length-drop}
 use Rattle.std.specs.List.{AllByRecursion}
 use Rattle.px_value.specs.declared.value.Value.{Value}
 use Rattle.px_value.specs.declared.object.Object.{Object}
-use Rattle.px_value.specs.Heap.{cell_at, cell_of}
+use Rattle.px_value.specs.Heap.{cell_at}
 use Rattle.px_code.specs.declared.frame.Frame.{Frame}
 use Rattle.px_code.specs.declared.frame.Slot.{Slot}
 use Rattle.px_wire.specs.declared.slot.SlotAt.{SlotAt}
 use Rattle.px_wire.specs.declared.cell.CellAt.{CellAt}
-use Rattle.px_wire.specs.Order.{IsBefore, AreInOrder, slot_place}
+use Rattle.px_wire.specs.Order.{AreInOrder, slot_place}
 use Rattle.px_value.specs.declared.header.Header.{Header}
 use Rattle.px_code.specs.declared.plan.Plan.{Plan}
 use Rattle.px_code.specs.Machine.{Machine}

@@ -1,28 +1,24 @@
 -- One end of a session, as contracts see it, and what its calls do.
-use Rattle.std.specs.Prelude.{◌≡◌, ℕ, zero, suc, ◌+◌, ◌<◌, Bool, true, false, List, [], ◌∷◌, ◌++◌, length, map, drop, Option, Some, None, unwrap_or, slice_get, pos}
+use Rattle.std.specs.Prelude.{◌≡◌, ℕ, zero, ◌<◌, Bool, true, false, List, [], ◌∷◌, length, map, Option, Some, None, unwrap_or, slice_get}
 use Rattle.px_value.specs.declared.value.Value.{Value}
-use Rattle.px_value.specs.declared.value.Value.TheVariants.{Null, Ref}
 use Rattle.px_value.specs.declared.object.Object.{Object}
-use Rattle.px_value.specs.declared.header.Header.{Header}
 use Rattle.px_value.specs.declared.header.Kind.TheVariants as kind
 use Rattle.px_value.specs.declared.ty.Ty.{Ty}
 use Rattle.px_value.specs.Defaults.{default_of}
 use Rattle.px_value.specs.Heap.{max_counted}
 use Rattle.px_code.specs.declared.side.Side.{Side}
-use Rattle.px_code.specs.declared.side.Side.TheVariants.{App, Db}
+use Rattle.px_code.specs.declared.side.Side.TheVariants.{App}
 use Rattle.px_code.specs.declared.class.Class.{Class}
 use Rattle.px_code.specs.declared.method.Method.{Method}
 use Rattle.px_code.specs.declared.code.Code.{Code}
 use Rattle.px_code.specs.declared.block.Block.{Block}
-use Rattle.px_code.specs.declared.frame.Frame.{Frame}
-use Rattle.px_code.specs.declared.frame.Slot.{Slot}
 use Rattle.px_code.specs.declared.plan.Plan.{Plan}
 use Rattle.px_code.specs.declared.reply.Reply.{Reply}
 use Rattle.px_code.specs.declared.reply.Reply.TheVariants as reply
 use Rattle.px_code.specs.Places.{numbered, same_side}
 use Rattle.px_code.specs.Frames.{root_frame, entry_frame}
-use Rattle.px_code.specs.CodeRun.{Ran, method_at, first_values}
-use Rattle.px_code.specs.Machine.{Machine, Stepped, steps, Stop, Threw, block_at, next_block, value_in, slots_at, just_written}
+use Rattle.px_code.specs.CodeRun.{Ran, method_at}
+use Rattle.px_code.specs.Machine.{Machine, Stepped, steps, Stop, Threw, block_at, next_block, value_in, slots_at}
 use Rattle.px_half.specs.declared.step.Step.{Step}
 use Rattle.px_half.specs.declared.step.Step.TheVariants as step
 
@@ -42,6 +38,13 @@ pub record End : Type 0 where
   pub machine : Machine
   -- the heap as it was after the last close, or as new
   pub closed : List Object
+
+-- the same end, whatever it did
+pub record IsSameEnd (old new : End) : Type 0 where
+  pub side : new.side ≡ old.side
+  pub plans : new.plans ≡ old.plans
+  pub part : new.part ≡ old.part
+  pub entry : new.entry ≡ old.entry
 
 -- ---- the plan in use
 

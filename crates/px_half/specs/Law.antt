@@ -8,7 +8,6 @@ use Rattle.px_code.specs.declared.word.Word.{Word}
 use Rattle.px_code.specs.declared.word.Word.TheVariants as w
 use Rattle.px_code.specs.declared.method.Method.{Method}
 use Rattle.px_code.specs.declared.block.Statement.{Statement}
-use Rattle.px_code.specs.declared.plan.Plan.{Plan}
 use Rattle.px_code.specs.Machine.{Machine, steps}
 use Rattle.px_code.specs.Frames.{types_of}
 use Rattle.px_code.specs.CodeRun.{method_at}

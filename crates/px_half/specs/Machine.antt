@@ -1,5 +1,5 @@
 -- What the machine of an end stands for, and how its calls meet the meaning of statements.
-use Rattle.std.specs.Prelude.{◌≡◌, ℕ, ◌++◌, ◌∷◌, [], List, Option, Some, None, Result, Ok, Err}
+use Rattle.std.specs.Prelude.{◌≡◌, ℕ, ◌++◌, ◌∷◌, [], List, Option, Result, Ok, Err}
 use Rattle.px_value.specs.declared.value.Value.{Value}
 use Rattle.px_value.specs.declared.value.Value.TheVariants.{Null}
 use Rattle.px_value.specs.declared.op.Op.{Op}
@@ -8,9 +8,8 @@ use Rattle.px_value.specs.Operators.{Applied, apply}
 use Rattle.px_code.specs.declared.word.Operand.{Operand}
 use Rattle.px_value.specs.declared.object.Object.{Object}
 use Rattle.px_code.specs.declared.word.Word.{Word}
-use Rattle.px_code.specs.declared.block.Statement.{Statement}
 use Rattle.px_code.specs.Act.{Slots, Act, Reads, Writes, comes, at_object, operand, operand_or, act_of, Acted, acted}
-use Rattle.px_code.specs.Machine.{Machine, top_values, after_act, with_value, sent, Stepped, step, steps, Stop as Ending, RunsOn, Returned, Threw}
+use Rattle.px_code.specs.Machine.{Machine, top_values, Stop as Ending, RunsOn, Returned, Threw}
 use Rattle.px_half.specs.Undo.{undone}
 use Rattle.px_half.specs.declared.machine.Machine.{Machine as MachineData}
 use Rattle.px_half.specs.declared.machine.Flow.{Flow}

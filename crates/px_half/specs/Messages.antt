@@ -1,12 +1,12 @@
 -- What the messages of an end carry.
-use Rattle.std.specs.Prelude.{◌≡◌, ℕ, zero, suc, ◌+◌, ◌==◌, Bool, true, false, ◌&&◌, ◌||◌, List, [], ◌∷◌, ◌++◌, map, drop, length, ◌≤◌, ◌^◌, Option, Some, None, unwrap_or, slice_get, if◌then◌else◌, Contains}
+use Rattle.std.specs.Prelude.{◌≡◌, ℕ, zero, ◌+◌, ◌==◌, Bool, true, false, ◌&&◌, ◌||◌, List, [], ◌∷◌, ◌++◌, map, drop, length, ◌≤◌, ◌^◌, Option, Some, None, slice_get, Contains}
 use Rattle.std.specs.List.{AllByRecursion}
 use Rattle.px_value.specs.declared.value.Value.{Value}
 use Rattle.px_value.specs.declared.object.Object.{Object}
 use Rattle.px_value.specs.declared.header.Header.{Header}
 use Rattle.px_value.specs.Heap.{cell_at, header_of}
 use Rattle.px_code.specs.declared.side.Side.{Side}
-use Rattle.px_code.specs.declared.side.Side.TheVariants.{App, Db}
+use Rattle.px_code.specs.declared.side.Side.TheVariants.{App}
 use Rattle.px_code.specs.declared.cell.Cell.{Cell}
 use Rattle.px_code.specs.declared.block.Naming.{Naming}
 use Rattle.px_code.specs.declared.frame.Frame.{Frame}

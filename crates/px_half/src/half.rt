@@ -4,7 +4,7 @@ ghost use Rattle.px_code.specs.declared.side.Side.TheVariants.{App, Db};
 ghost use Rattle.px_wire.specs.Fitting.{HasSpelling, UpdatesHaveSpelling};
 ghost use Rattle.px_half.specs.Messages.{IsTellable, IsTransfer, AreUpdates, IsMessage, IsEmitted, told};
 ghost use Rattle.px_half.specs.Absorbed.{absorbed, IsAbsorbed, IsRefused, IfBad};
-ghost use Rattle.px_half.specs.End.{plan_at as plan_of, HasSmallMain, new_end, begun, attended, block_run, reply_at, rested, closed_now, rolled_back};
+ghost use Rattle.px_half.specs.End.{IsSameEnd, plan_at as plan_of, HasSmallMain, new_end, begun, attended, block_run, reply_at, rested, closed_now, rolled_back};
 
 use crate::absorb::{AbsorbError, absorb_transfer, absorb_updates};
 use crate::emit::{frames_told, slots_told, updates};
@@ -126,6 +126,7 @@ impl Half {
         ensures answer { IfOk result (λ step. step ≡ (block_run self.old).answer) }
         ensures after { OnOk result (self.new ≡ (block_run self.old).after) }
         ensures closed { self.new.closed ≡ self.old.closed }
+        ensures same { IsSameEnd self.old self.new }
     {
         let plan = plan_at(&self.plans, self.part);
         match block_at(plan, self.block) {
@@ -222,6 +223,7 @@ impl Half {
         ensures bad { IfBad result (IsRefused bytes.now self.old) }
         ensures kept { IfBad result (self.new ≡ self.old) }
         ensures closed { self.new.closed ≡ self.old.closed }
+        ensures same { IsSameEnd self.old self.new }
     {
         match decode(alloc, bytes)? {
             Some(message) => self.take(alloc, &message),
@@ -234,6 +236,7 @@ impl Half {
         ensures bad { IfBad result (absorbed message.now self.old ≡ None) }
         ensures kept { IfBad result (self.new ≡ self.old) }
         ensures closed { self.new.closed ≡ self.old.closed }
+        ensures same { IsSameEnd self.old self.new }
     {
         match plan_at(&self.plans, self.part) {
             None => Err(AbsorbError::BadMessage),

@@ -32,6 +32,13 @@ use Rattle.px_lower.proofs.Meets.{Meets}
 use Rattle.px_lower.proofs.Agree.{Agree}
 use Rattle.px_lower.proofs.Stmts.{After, does}
 
+-- ---- the one class
+
+pub main_of : (cs : List Class) → is_main cs ≡ true → members_in cs ≡ main_members cs
+main_of [] h = absurd (cc h)
+main_of (c ∷ []) h = append-nil c.members
+main_of (c ∷ d ∷ cs) h = absurd (cc h)
+
 -- ---- the first slots
 
 pub rises_places : (n : ℕ) (ps : List Param) → Rises n (places n ps) (length ps + n)
@@ -109,11 +116,6 @@ module _ (Q W : Type 0) (P : Checked) where
   methods_keep (m ∷ ms) number nodes zero args g h e k = body_keeps number m nodes args g h e k
   methods_keep (m ∷ ms) number nodes (suc i) args g h e k = methods_keep ms (number + 1) (lowered_body P number m nodes).nodes i args g h e k
 
-  main_of : (cs : List Class) → is_main cs ≡ true → members_in cs ≡ main_members cs
-  main_of [] h = absurd (cc h)
-  main_of (c ∷ []) h = append-nil c.members
-  main_of (c ∷ d ∷ cs) h = absurd (cc h)
-
   code_keeps : (ms : List Method) (heap : List Object) (world : W) (method : ℕ) (args : List Value) → ms ≡ methods_in (main_members P.program.classes) → Takes (method_at ms method) args → exec {Q = Q} (facts_in P.facts) (map body_of ms) heap world method args ≡ untraced (code_run (lowered P) heap world method args)
   unfolding exec code_run lowered
   code_keeps ms heap world zero args e k = refl
@@ -122,4 +124,4 @@ module _ (Q W : Type 0) (P : Checked) where
       ∙ ap (λ (xs : List Method). untraced (code_enters (slice_get (lowered_methods P 1 xs []).methods i) (Ref 0 ∷ args) (record { shared = record { heap = heap; world = world }; ran = [] }))) e
 
 pub keeps_meaning : (Q W : Type 0) → KeepsMeaning Q W
-keeps_meaning Q W P heap world method args main takes = code_keeps Q W P (methods_of P.program) heap world method args (ap methods_in (main_of Q W P P.program.classes main)) takes
+keeps_meaning Q W P heap world method args main takes = code_keeps Q W P (methods_of P.program) heap world method args (ap methods_in (main_of P.program.classes main)) takes

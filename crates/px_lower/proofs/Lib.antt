@@ -17,3 +17,6 @@ pub mod Steps
 pub mod Sounds
 pub mod Completes
 pub mod Sizes
+pub mod FactsOf
+pub mod Written
+pub mod WellFormed

@@ -28,6 +28,42 @@ module _ (X E X' E' X'' E'' : Type 0) (p : X → X') (q : E → E') (p' : X' →
   map_map_stmt (g.Assign a b) = refl
   map_map_stmt (g.Return e) = refl
 
+-- ---- one fold of an expression
+
+abbrev pub Each : (A : Type 0) → (A → Type 0) → Type 0
+Each A R = (a : A) × R a
+
+abbrev pub bare : (A : Type 0) (R : A → Type 0) → ExprForm-F (Each A R) (Each A R) → ExprForm-F A A
+bare A R z = map-ExprForm (Each A R) (Each A R) A A (λ p. p.0) (λ p. p.0) z
+
+module _ (A : Type 0) (step : ExprForm-F A A → A) (R : A → Type 0) where
+  abbrev folded : Expr → A
+  folded e = fold-Expr A A step (λ x. x.form) e
+
+  abbrev folded_form : ExprForm → A
+  folded_form e = fold-ExprForm A A step (λ x. x.form) e
+
+  abbrev HE : Expr → Type 0
+  HE e = R (folded e)
+
+  abbrev HF : ExprForm → Type 0
+  HF e = R (folded_form e)
+
+  holds_form : ((z : ExprForm-F (Each A R) (Each A R)) → R (step (bare A R z))) → (x : ExprForm-F ExprForm Expr) (y : ExprForm-F ((a : ExprForm) × HF a) ((a : Expr) × HE a)) → map-ExprForm ((a : ExprForm) × HF a) ((a : Expr) × HE a) ExprForm Expr (λ e. e.0) (λ e. e.0) y ≡ x → HF (roll-ExprForm x)
+  holds_form h x y e =
+      let z = map-ExprForm ((a : ExprForm) × HF a) ((a : Expr) × HE a) (Each A R) (Each A R) (λ p. (folded_form p.0, p.1)) (λ p. (folded p.0, p.1)) y in
+      let l : map-ExprForm ExprForm Expr A A folded_form folded x ≡ bare A R z =
+      ap (map-ExprForm ExprForm Expr A A folded_form folded) (sym e) ∙ map_map_expr _ _ _ _ _ _ (λ e. e.0) (λ e. e.0) folded_form folded y ∙ sym (map_map_expr _ _ _ _ _ _ (λ p. (folded_form p.0, p.1)) (λ p. (folded p.0, p.1)) (λ p. p.0) (λ p. p.0) y) in
+      subst R (sym (fold-roll-ExprForm A A step (λ x. x.form) x ∙ ap step l)) (h z)
+
+  holds_at : (x : Expr-F ExprForm Expr) (y : Expr-F ((a : ExprForm) × HF a) ((a : Expr) × HE a)) → map-Expr ((a : ExprForm) × HF a) ((a : Expr) × HE a) ExprForm Expr (λ e. e.0) (λ e. e.0) y ≡ x → HE (roll-Expr x)
+  holds_at x y e =
+      let x' = map-Expr ((a : ExprForm) × HF a) ((a : Expr) × HE a) ExprForm Expr (λ e. e.0) (λ e. e.0) y in
+      subst (λ (w : Expr-F ExprForm Expr). HE (roll-Expr w)) e (subst R (sym (fold-roll-Expr A A step (λ x. x.form) x')) y.form.1)
+
+  pub holds_expr : ((z : ExprForm-F (Each A R) (Each A R)) → R (step (bare A R z))) → (e : Expr) → R (folded e)
+  holds_expr h e = ind-Expr HF HE (holds_form h) holds_at e
+
 -- ---- two folds of an expression: a form goes by its number, and in the second by its first token too
 
 abbrev pub Pair : (A B : Type 0) → (A → B → Type 0) → Type 0

@@ -24,7 +24,8 @@ use Rattle.px_lower.specs.Emit.{Operated, operand_of, slot_of}
 use Rattle.px_lower.specs.Expressions.{low, type_of}
 use Rattle.px_lower.specs.Statements.{joined, declares_step, declares, last_completes, completes_step, completes, Steps, lower_all, block_low, fit_to, local_low, assign_low, return_by, return_low, stmt_low, low_stmt}
 use Rattle.px_lower.specs.Programs.{param_ty, method_node, begun, ended, lowered_body, method_of, Methods, lowered_methods, lowered_fields, field_decls, field_node as node_of_field, main_members, lowered}
-use Rattle.px_lower.specs.Sound.{ends_in_return, IsSound, AllSound, MethodsSound, method_nodes, field_node, count_up, NodesInOrder}
+use Rattle.px_code.specs.WellFormed.{ends_in_return}
+use Rattle.px_lower.specs.Sound.{IsSound, AllSound, MethodsSound, method_nodes, field_node, count_up, NodesInOrder}
 use Rattle.px_lower.proofs.Slots.{Rises, rises_next, rises_take}
 use Rattle.px_lower.proofs.Frames.{rises_places}
 use Rattle.px_lower.proofs.Steps.{Inv, Moves, moves_none, moves_then, emits, FineOp, Fine, operand_fine, slot_fine, fit_fine, fine}
@@ -167,13 +168,27 @@ module _ (P : Checked) where
   ended_ends m true o k = ends_next false o.trees (length o.nodes + 1) (w.Return None)
   ended_ends m false o k = k refl
 
-  body_inv : (number : ℕ) (m : Method) (nodes : List Node) → Inv P (length nodes + 1) (lowered_body P number m nodes)
-  body_inv number m nodes =
+  body_done : (number : ℕ) (m : Method) (nodes : List Node) → Done P (length nodes + 1) (begun P number m nodes) (low_stmt P (map_option named_ty m.gives) m.body (begun P number m nodes)) (length (declares m.body))
+  body_done number m nodes =
       let o = begun P number m nodes in
       let room : o.local + length (declares m.body) ≤ length o.slots = omega (arith, length-append (ty.Ref ∷ map param_ty m.params) (declares m.body), length-map m.params param_ty) in
-      ended_inv (length nodes + 1) m (completes m.body) (low_stmt P (map_option named_ty m.gives) m.body o) ((stmt_fine P (length nodes + 1) (map_option named_ty m.gives) m.body).done o (begun_inv number m nodes) room).inv
+      (stmt_fine P (length nodes + 1) (map_option named_ty m.gives) m.body).done o (begun_inv number m nodes) room
 
-  body_sound : (number : ℕ) (m : Method) (nodes : List Node) → IsSound (method_of m (length nodes) (lowered_body P number m nodes))
+  body_inv : (number : ℕ) (m : Method) (nodes : List Node) → Inv P (length nodes + 1) (lowered_body P number m nodes)
+  body_inv number m nodes = ended_inv (length nodes + 1) m (completes m.body) (low_stmt P (map_option named_ty m.gives) m.body (begun P number m nodes)) (body_done number m nodes).inv
+
+  ended_slots : (m : Method) (b : Bool) (o : Draft) → length (ended P m b o).slots ≡ length o.slots
+  ended_slots m true o = refl
+  ended_slots m false o = refl
+
+  -- for `this` and the parameters
+  pub body_room : (number : ℕ) (m : Method) (nodes : List Node) → length m.params + 1 ≤ length (lowered_body P number m nodes).slots
+  body_room number m nodes =
+      let o = low_stmt P (map_option named_ty m.gives) m.body (begun P number m nodes) in
+      let first : length m.params + 1 ≤ length (begun P number m nodes).slots = (begun_inv number m nodes).room in
+      omega (arith, first, (body_done number m nodes).slots, ended_slots m (completes m.body) o)
+
+  pub body_sound : (number : ℕ) (m : Method) (nodes : List Node) → IsSound (method_of m (length nodes) (lowered_body P number m nodes))
   body_sound number m nodes = record {
     slots = (body_inv number m nodes).below;
     ends = ended_ends m (completes m.body) _ (λ e. (stmt_fine P (length nodes + 1) (map_option named_ty m.gives) m.body).ends (begun P number m nodes) e);

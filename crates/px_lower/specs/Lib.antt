@@ -5,3 +5,4 @@ pub mod Programs
 pub mod Law
 pub mod Sound
 pub mod Size
+pub mod WellFormed

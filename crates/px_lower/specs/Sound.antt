@@ -1,5 +1,5 @@
 -- What is sound about the statements of a method.
-use Rattle.std.specs.Prelude.{◌≡◌, ℕ, zero, suc, ◌+◌, ◌<◌, Bool, true, false, List, [], ◌∷◌, ◌++◌, length, map, Option, Some, None}
+use Rattle.std.specs.Prelude.{◌≡◌, ℕ, zero, suc, ◌+◌, ◌<◌, true, false, List, [], ◌∷◌, ◌++◌, length, map, Option, Some, None}
 use Rattle.px_types.specs.declared.checked.Checked.{Checked}
 use Rattle.px_code.specs.declared.word.Operand.{Operand}
 use Rattle.px_code.specs.declared.word.Operand.TheVariants.{Slot, Literal}
@@ -10,7 +10,7 @@ use Rattle.px_code.specs.declared.method.Tree.{Tree}
 use Rattle.px_code.specs.declared.method.Tree.TheVariants.{Do}
 use Rattle.px_code.specs.declared.class.Field.{Field}
 use Rattle.px_code.specs.declared.class.Class.{Class}
-use Rattle.px_code.specs.Machine.{is_return}
+use Rattle.px_code.specs.WellFormed.{ends_in_return}
 use Rattle.px_lower.specs.Programs.{lowered}
 
 -- ---- slots
@@ -35,13 +35,6 @@ NamesBelow n (w.Return a) = IsBelowIf n a
 abbrev pub AllBelow : ℕ → List Tree → Type 0
 AllBelow n [] = Unit {0}
 AllBelow n (Do node word ∷ trees) = NamesBelow n word × AllBelow n trees
-
--- ---- the end
-
--- the last statement is a return; `before` tells it of those before
-abbrev pub ends_in_return : Bool → List Tree → Bool
-ends_in_return before [] = before
-ends_in_return before (Do node word ∷ trees) = ends_in_return (is_return word) trees
 
 -- ---- methods
 

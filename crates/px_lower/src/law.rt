@@ -2,6 +2,7 @@
 ghost use Rattle.px_lower.specs.Law.{KeepsMeaning, CompletesAsJudged};
 ghost use Rattle.px_lower.specs.Size.{FewSlots};
 ghost use Rattle.px_lower.specs.Sound.{MethodsSound, NodesInOrder};
+ghost use Rattle.px_lower.specs.WellFormed.{LoweredIsWellFormed, EntriesAreMethods};
 
 /// The code of a program does what the program does, whatever is asked of outside.
 pub fn keeps_meaning<Q, W>()
@@ -26,4 +27,14 @@ pub fn slots_are_few()
 /// A body returns at its end exactly where the type rules let it complete normally.
 pub fn completes_as_judged()
     ensures { CompletesAsJudged }
+{}
+
+/// What a program that keeps the type rules is lowered to is well formed, where no method has too many slots for a message.
+pub fn lowered_is_well_formed()
+    ensures { LoweredIsWellFormed }
+{}
+
+/// Each entry of a program is a method that jobs may call, with its parameters and its type.
+pub fn entries_are_methods()
+    ensures { EntriesAreMethods }
 {}

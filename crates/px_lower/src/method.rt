@@ -1,5 +1,6 @@
 //! Methods.
 ghost use Rattle.std.specs.Prelude.{◌≡◌, ◌∷◌, [], ◌++◌, length, map, IfOk, OnOk};
+ghost use Rattle.px_code.specs.WellFormed.{HasFewSlots};
 ghost use Rattle.px_mean.specs.Facts.{named_ty};
 ghost use Rattle.px_mean.specs.Exec.{map_option};
 ghost use Rattle.px_lower.specs.Programs.{param_ty, places, method_node, begun, ended, lowered_body, is_public as is_public_access, method_of};
@@ -134,6 +135,9 @@ fn is_public(access: Access) -> bool
     }
 }
 
+// A message tells a slot by 16 bits.
+const MAX_SLOTS: usize = 65536;
+
 /// A method that is lowered, and the nodes of the program so far.
 #[derive(Drop)]
 pub struct Lowered {
@@ -149,7 +153,8 @@ pub fn lower_method(
     m: &tree::Method,
     nodes: Items<Node>,
 ) -> Result<Lowered, AllocError>
-    ensures { IfOk result (λ one. let o = lowered_body checked.now number m.now nodes in one ≡ record { method = method_of m.now (length nodes) o; nodes = o.nodes }) }
+    ensures is { IfOk result (λ one. let o = lowered_body checked.now number m.now nodes in one ≡ record { method = method_of m.now (length nodes) o; nodes = o.nodes }) }
+    ensures few { IfOk result (λ one. HasFewSlots one.method) }
 {
     let name = Vec::from_slice(alloc, m.name.bytes.as_slice())?;
     let node = next_node(&nodes)?;
@@ -163,6 +168,9 @@ pub fn lower_method(
         trees,
         ..
     } = body(alloc, checked, number, m, nodes)?;
+    if slots.len() > MAX_SLOTS {
+        return Err(AllocError);
+    }
     Ok(Lowered {
         method: Method {
             class: 0,

@@ -1,6 +1,8 @@
 //! A whole program.
 ghost use Rattle.std.specs.Prelude.{◌≡◌, [], ◌∷◌, ◌++◌, length, map, IfOk, OnOk};
+ghost use Rattle.std.specs.List.{AllByRecursion};
 ghost use Rattle.px_types.specs.Members.{methods_in};
+ghost use Rattle.px_code.specs.WellFormed.{HasFewSlots};
 ghost use Rattle.px_lower.specs.Programs.{lowered, lowered_members, lowered_methods, lowered_fields, field_decls, field_node, main_members as members_of_main};
 
 use crate::draft::{line_at, next_node};
@@ -33,6 +35,7 @@ fn main_members(program: &Program) -> &[Member]
 fn methods(alloc: Global, checked: &Checked, members: &[Member]) -> Result<Made, AllocError>
     ensures methods { IfOk result (λ made. made.methods ≡ (lowered_methods checked.now 1 (methods_in members.now) []).methods) }
     ensures nodes { IfOk result (λ made. made.nodes ≡ (lowered_methods checked.now 1 (methods_in members.now) []).nodes) }
+    ensures few { IfOk result (λ made. AllByRecursion HasFewSlots made.methods) }
 {
     let mut methods = Items::new(alloc);
     let mut nodes = Items::new(alloc);
@@ -106,7 +109,8 @@ fn fields(
 
 /// The code of a program.
 pub fn lower(alloc: Global, checked: &Checked) -> Result<Code, AllocError>
-    ensures { IfOk result (λ code. code ≡ lowered checked.now) }
+    ensures is { IfOk result (λ code. code ≡ lowered checked.now) }
+    ensures few { IfOk result (λ code. AllByRecursion HasFewSlots code.methods) }
 {
     let members = main_members(&checked.program);
     let Made { methods, mut nodes } = methods(alloc, checked, members)?;

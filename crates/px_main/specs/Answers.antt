@@ -1,25 +1,27 @@
 -- What a command answers over the bytes of its files: a status, and all that is to be written with it.
-use Rattle.std.specs.Prelude.{◌≡◌, ℕ, List, [], ◌∷◌, length, Option, Some, None, Result, Ok, Err, codes, decimal, map, nat_lt, if◌then◌else◌, slice_get}
+use Rattle.std.specs.Prelude.{◌≡◌, ℕ, List, [], ◌∷◌, length, Option, Some, None, Result, Ok, Err, codes, decimal, nat_lt, if◌then◌else◌}
 use Rattle.px_lex.specs.declared.tree.Program.{Program}
-use Rattle.px_lex.specs.declared.tree.Class.{Class}
 use Rattle.px_lex.specs.Unbuilt.{unbuilt_line}
 use Rattle.px_parse.specs.Programs.{IsProgram}
 use Rattle.px_types.specs.declared.checked.Checked.{Checked}
-use Rattle.px_types.specs.declared.checked.Entry.{Entry}
 use Rattle.px_types.specs.declared.program.Known.{Known}
 use Rattle.px_types.specs.Programs.{judged}
-use Rattle.px_types.specs.Members.{methods_of}
-use Rattle.px_mean.specs.Serial.{Served, serial, Call}
-use Rattle.px_mean.specs.Program.{meaning_of, program_fields}
+use Rattle.px_lower.specs.Programs.{lowered}
 use Rattle.px_job.specs.declared.job.Call.{Call as JobCall}
 use Rattle.px_job.specs.declared.job.JobFault.{JobFault}
 use Rattle.px_job.specs.declared.job.JobCode.{JobCode}
 use Rattle.px_job.specs.declared.job.JobCode.TheVariants as code
+use Rattle.px_job.specs.declared.job.SplitJob.{SplitJob}
 use Rattle.px_job.specs.Jobs.{job_of}
-use Rattle.px_report.specs.Lines.{line, run_text}
+use Rattle.px_job.specs.SplitJobs.{split_job_of}
+use Rattle.px_report.specs.Lines.{line}
+use Rattle.px_main.specs.declared.command.Kind.{Kind}
+use Rattle.px_main.specs.declared.command.Kind.TheVariants.{Run, Solo}
 use Rattle.px_main.specs.declared.judge.Fault.{Fault}
 use Rattle.px_main.specs.declared.judge.ProgramCode.{ProgramCode}
 use Rattle.px_main.specs.declared.judge.ProgramCode.TheVariants.{TooLong, Syntax, Later}
+use Rattle.px_main.specs.Run.{run_of, text_of}
+use Rattle.px_main.specs.Solo.{IsReport}
 
 abbrev pub max_program : ℕ
 max_program = 1048576
@@ -56,25 +58,6 @@ abbrev pub Judges : Option (List ℕ) → Result Checked Fault → Type 0
 Judges None outcome = outcome ≡ fault 0 TooLong
 Judges (Some bytes) outcome = IsBuilt bytes (unbuilt_line bytes) outcome
 
--- ---- the run
-
-abbrev pub method_at : Option Entry → ℕ
-method_at None = 0
-method_at (Some entry) = entry.method
-
-abbrev pub wanted : List Entry → JobCall → Call
-wanted entries call = record { session = call.session; method = method_at (slice_get entries call.entry); args = call.args }
-
-abbrev pub class_names : Program → List (List ℕ)
-class_names program = map (λ (c : Class). c.name.bytes) program.classes
-
--- the serial run of all calls in the order of the file, by the one session that there is
-abbrev pub run_of : Checked → List JobCall → Served (Unit {0})
-run_of c calls = serial (meaning_of c.facts (methods_of c.program)) (program_fields c.program) 1 tt (map (wanted c.entries) calls)
-
-abbrev pub text_of : Checked → Served (Unit {0}) → List ℕ
-text_of c served = run_text (class_names c.program) served.made served.sessions
-
 -- ---- the answer
 
 abbrev pub Answer : Type 0
@@ -104,36 +87,83 @@ refused_program f = (5, line (codes "program" ∷ decimal f.line ∷ program_cod
 abbrev pub refused_job : ℕ → List ℕ → Answer
 refused_job number name = (6, line (codes "job" ∷ decimal number ∷ name ∷ []))
 
-abbrev pub with_calls : Checked → Result (List JobCall) JobFault → Answer
-with_calls c (Err f) = refused_job f.line (job_code f.code)
-with_calls c (Ok calls) = (0, text_of c (run_of c calls))
+abbrev pub refused_by : JobFault → Answer
+refused_by f = refused_job f.line (job_code f.code)
 
-abbrev pub with_job : Checked → Option (List ℕ) → Answer
-with_job c None = refused_job 0 (codes "J2")
-with_job c (Some job) = with_calls c (job_of c.entries job)
+-- `a` is an answer over the calls that were read, or over what is wrong with them: `run` has one
+abbrev pub AnswersCalls : Checked → Result (List JobCall) JobFault → Answer → Type 0
+AnswersCalls c (Err f) a = a ≡ refused_by f
+AnswersCalls c (Ok calls) a = a ≡ (0, text_of c (run_of c calls))
 
-abbrev pub with_program : Result Checked Fault → Option (List ℕ) → Answer
-with_program (Err f) job = refused_program f
-with_program (Ok c) job = with_job c job
+-- the same of a job with a part: `solo` answers with a report
+abbrev pub AnswersSplit : Checked → Result SplitJob JobFault → Answer → Type 0
+AnswersSplit c (Err f) a = a ≡ refused_by f
+AnswersSplit c (Ok job) a = (a.0 ≡ 0) × IsReport c job a.1
 
--- `a` is the answer to `run` over what was kept of its two files
-pub record IsAnswer (program job : Option (List ℕ)) (a : Answer) : Type 0 where
+abbrev pub AnswersRead : Kind → Checked → List ℕ → Answer → Type 0
+AnswersRead Run c job a = AnswersCalls c (job_of c.entries job) a
+AnswersRead Solo c job a = AnswersSplit c (split_job_of c.entries (lowered c) job) a
+
+abbrev pub AnswersJob : Kind → Checked → Option (List ℕ) → Answer → Type 0
+AnswersJob kind c None a = a ≡ refused_job 0 (codes "J2")
+AnswersJob kind c (Some job) a = AnswersRead kind c job a
+
+abbrev pub AnswersProgram : Kind → Result Checked Fault → Option (List ℕ) → Answer → Type 0
+AnswersProgram kind (Err f) job a = a ≡ refused_program f
+AnswersProgram kind (Ok c) job a = AnswersJob kind c job a
+
+-- `a` is an answer to a command of this kind over what was kept of its two files
+pub record IsAnswer (kind : Kind) (program job : Option (List ℕ)) (a : Answer) : Type 0 where
   pub outcome : Result Checked Fault
   pub judges : Judges program outcome
-  pub answers : with_program outcome job ≡ a
+  pub answers : AnswersProgram kind outcome job a
 
 -- the same over the files
-abbrev pub RunAnswers : List ℕ → List ℕ → Answer → Type 0
-RunAnswers program job a = IsAnswer (kept max_program program) (kept max_job job) a
+abbrev pub Answers : Kind → List ℕ → List ℕ → Answer → Type 0
+Answers kind program job a = IsAnswer kind (kept max_program program) (kept max_job job) a
 
--- What the files allow as the answer, as far as the shelf tells them. A program that is refused needs no job.
-abbrev pub Allows : Option (List ℕ) → Option (List ℕ) → Answer → Type 0
-Allows None job a = Unit {0}
-Allows (Some program) None a = a.0 ≡ 5 → RunAnswers program [] a
-Allows (Some program) (Some job) a = RunAnswers program job a
+-- What the files allow as an answer, as far as the shelf tells them. A program that is refused needs no job.
+abbrev pub Allows : Kind → Option (List ℕ) → Option (List ℕ) → Answer → Type 0
+Allows kind None job a = Unit {0}
+Allows kind (Some program) None a = a.0 ≡ 5 → Answers kind program [] a
+Allows kind (Some program) (Some job) a = Answers kind program job a
 
 -- what the files fix as the answer, as far as the shelf tells them
-abbrev pub Fixes : Option (List ℕ) → Option (List ℕ) → Answer → Type 0
-Fixes None job a = ⊥
-Fixes (Some program) None a = (a.0 ≡ 5) × RunAnswers program [] a
-Fixes (Some program) (Some job) a = RunAnswers program job a
+abbrev pub Fixes : Kind → Option (List ℕ) → Option (List ℕ) → Answer → Type 0
+Fixes kind None job a = ⊥
+Fixes kind (Some program) None a = (a.0 ≡ 5) × Answers kind program [] a
+Fixes kind (Some program) (Some job) a = Answers kind program job a
+
+-- ---- the status alone
+
+-- of a job that was read
+abbrev pub status_read : {A : Type 0} → Result A JobFault → ℕ
+status_read (Err f) = 6
+status_read (Ok job) = 0
+
+abbrev pub status_by : Kind → Checked → List ℕ → ℕ
+status_by Run c job = status_read (job_of c.entries job)
+status_by Solo c job = status_read (split_job_of c.entries (lowered c) job)
+
+abbrev pub status_of_job : Kind → Checked → Option (List ℕ) → ℕ
+status_of_job kind c None = 6
+status_of_job kind c (Some job) = status_by kind c job
+
+abbrev pub status_of : Kind → Result Checked Fault → Option (List ℕ) → ℕ
+status_of kind (Err f) job = 5
+status_of kind (Ok c) job = status_of_job kind c job
+
+-- the program is judged, and then the job
+pub record HasStatus (kind : Kind) (program job : Option (List ℕ)) (n : ℕ) : Type 0 where
+  pub outcome : Result Checked Fault
+  pub judges : Judges program outcome
+  pub is : status_of kind outcome job ≡ n
+
+abbrev pub Statuses : Kind → List ℕ → List ℕ → ℕ → Type 0
+Statuses kind program job n = HasStatus kind (kept max_program program) (kept max_job job) n
+
+-- what the files fix as the status: 0 where both are accepted
+abbrev pub FixesStatus : Kind → Option (List ℕ) → Option (List ℕ) → ℕ → Type 0
+FixesStatus kind None job n = ⊥
+FixesStatus kind (Some program) None n = (n ≡ 5) × Statuses kind program [] n
+FixesStatus kind (Some program) (Some job) n = Statuses kind program job n

@@ -16,9 +16,9 @@ abbrev pub TookAll : Option (List ℕ) → Option (List ℕ) → List ℕ → Ty
 TookAll None now text = Unit {0}
 TookAll (Some old) now text = now ≡ Some (old ++ text)
 
--- `Allows` says of an answer that the files allow it, and `Fixes` that they fix it, as far as they are told.
+-- `Allows` says of an answer that the files allow it, `Fixes` that they fix it, and `FixesStatus` that they fix a status, as far as they are told.
 -- s and k are the counts of faults of shelf and sink, before and after; `old` and `now` are what the sink took.
-pub record Ends (Allows Fixes : Answer → Type 0) (status s s' k k' : ℕ) (old now : Option (List ℕ)) : Type 0 where
+pub record Ends (Allows Fixes : Answer → Type 0) (FixesStatus : ℕ → Type 0) (status s s' k k' : ℕ) (old now : Option (List ℕ)) : Type 0 where
   -- the whole text was taken
   pub done : status ≡ 0 → (text : List ℕ) × Allows (0, text) × TookAll old now text
   -- a file couldn't be read
@@ -30,5 +30,7 @@ pub record Ends (Allows Fixes : Answer → Type 0) (status s s' k k' : ℕ) (old
   -- the program or the job is refused; where its line couldn't be written the status stays
   pub refused : 5 ≤ status → (text : List ℕ) × Allows (status, text) × (TookAll old now text ⊎ (Rose k k' × TookFront old now text))
   -- where nothing failed the status is the one that the files fix, want of memory aside; a refusal doesn't wait for the sink
-  pub complete : ¬ (Rose s s') → (a : Answer) → Fixes a → (¬ (Rose k k') ⊎ (5 ≤ a.0)) → (status ≡ a.0) ⊎ (status ≡ 4)
+  pub complete : ¬ (Rose s s') → (n : ℕ) → FixesStatus n → (¬ (Rose k k') ⊎ (5 ≤ n)) → (status ≡ n) ⊎ (status ≡ 4)
+  -- the files fix one answer at most
+  pub one : (a b : Answer) → Fixes a → Fixes b → a ≡ b
   pub few : status ≤ 6

@@ -1,3 +1,5 @@
 pub mod Commands
+pub mod Run
+pub mod Solo
 pub mod Answers
 pub mod Ends

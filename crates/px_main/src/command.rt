@@ -2,11 +2,21 @@
 ghost use Rattle.std.specs.Prelude.{◌≡◌, map};
 ghost use Rattle.std.specs.Option.{option_map};
 ghost use Rattle.std.specs.Str.{bytes_eq};
-ghost use Rattle.px_main.specs.Commands.{command_of, files_of};
+ghost use Rattle.px_main.specs.Commands.{command_of, kind_of, told_by};
 
-/// The names of the two files of a command.
+/// What is done with a program and its job.
+#[derive(Clone, Copy, Debug, PartialEq, Eq)]
+pub enum Kind {
+    /// The calls are run one after the other, from the tree.
+    Run,
+    /// The calls of one session are served by two ends.
+    Solo,
+}
+
+/// A command, and the names of its two files.
 #[derive(Clone, Copy)]
-pub struct Files<'a> {
+pub struct Command<'a> {
+    pub kind: Kind,
     pub program: &'a str,
     pub job: &'a str,
 }
@@ -17,17 +27,29 @@ fn is_text(a: &str, b: &str) -> bool
     a == b
 }
 
+fn kind_of(word: &str) -> Option<Kind>
+    ensures { result ≡ kind_of word.now }
+{
+    if is_text(word, "run") {
+        return Some(Kind::Run);
+    }
+    if is_text(word, "solo") {
+        return Some(Kind::Solo);
+    }
+    None
+}
+
 /// The command that the words are, if they are one.
-pub fn command<'a>(words: &[&'a str]) -> Option<Files<'a>>
-    ensures { command_of (map (λ w. w.now) words.now) ≡ option_map files_of result }
+pub fn read_command<'a>(words: &[&'a str]) -> Option<Command<'a>>
+    ensures { command_of (map (λ w. w.now) words.now) ≡ option_map told_by result }
 {
     match words {
         [word, program, job] => {
-            if is_text(word, "run") && !program.is_empty() && !job.is_empty() {
-                Some(Files { program, job })
-            } else {
-                None
+            let kind = kind_of(word)?;
+            if program.is_empty() || job.is_empty() {
+                return None;
             }
+            Some(Command { kind, program, job })
         }
         _ => None,
     }

@@ -1,8 +1,7 @@
 //! What comes of a program file.
 ghost use Rattle.std.specs.Prelude.{◌≡◌, ◌≤◌, length, IfSome, IfOk};
 ghost use Rattle.std.specs.Option.{option_map};
-ghost use Rattle.px_types.specs.Programs.{max_fields};
-ghost use Rattle.px_mean.specs.Program.{program_fields};
+ghost use Rattle.px_lower.specs.WellFormed.{IsJudged};
 ghost use Rattle.px_main.specs.Answers.{IsParsed, Judges, max_program};
 
 use px_lex::first_unbuilt;
@@ -28,11 +27,10 @@ pub struct Fault {
 }
 
 // A program without forms that aren't built yet.
-#[tactic(auto, using(crate::proofs::Fields::few_fields))]
 fn parsed_program(alloc: Global, bytes: &[u8]) -> Result<Result<Checked, Fault>, AllocError>
     requires { length bytes.now ≤ max_program }
     ensures judged { IfOk result (λ judged. IsParsed bytes.now judged) }
-    ensures few { IfOk result (λ judged. IfOk judged (λ c. length (program_fields c.program) ≤ max_fields)) }
+    ensures keeps { IfOk result (λ judged. IfOk judged IsJudged) }
 {
     let line = 0;
     let program = match parse(alloc, bytes) {
@@ -57,7 +55,7 @@ fn parsed_program(alloc: Global, bytes: &[u8]) -> Result<Result<Checked, Fault>,
 pub fn judge(alloc: Global, bytes: &Option<Vec<u8>>) -> Result<Result<Checked, Fault>, AllocError>
     requires { IfSome bytes.now (λ bytes. length bytes.items ≤ max_program) }
     ensures judged { IfOk result (λ judged. Judges (option_map (λ bytes. bytes.items) bytes.now) judged) }
-    ensures few { IfOk result (λ judged. IfOk judged (λ c. length (program_fields c.program) ≤ max_fields)) }
+    ensures keeps { IfOk result (λ judged. IfOk judged IsJudged) }
 {
     match bytes {
         None => {

@@ -1,11 +1,14 @@
 //! `pyxis`: runs a program of a subset of Java over a job of calls.
 #![tactic(auto)]
 
+mod answer;
 mod command;
 mod files;
 mod judge;
 mod members;
 mod run;
+mod serial;
+mod solo;
 #[cfg(test)]
 mod tests;
 mod top;

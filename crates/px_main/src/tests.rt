@@ -2,12 +2,17 @@
 mod answers;
 mod damaged;
 mod outside;
+mod solo;
 
 use crate::top::still;
 use px_outside::{File, MemoryShelf, MemorySink, Shelf, Sink};
 use std::alloc::{AllocError, Global};
+use std::process::Abort;
+use std::test::Fail;
 
-const WORDS: [&str; 3] = ["run", "p", "j"];
+const RUN: [&str; 3] = ["run", "p", "j"];
+
+const SOLO: [&str; 3] = ["solo", "p", "j"];
 
 const PROGRAM: &str =
     "class Main { long n; public long add(long x) { long y = x * 3; n = n + y; return n - 1; } }\n";
@@ -57,10 +62,34 @@ fn status<S: Shelf, T: Sink>(
     }
 }
 
+// The status of a command over these files.
+fn over(
+    alloc: Global,
+    words: &[&str],
+    program: &[u8],
+    job: &[u8],
+    sink: &mut MemorySink,
+) -> Result<u8, AllocError> {
+    let mut shelf = shelf(alloc, program, job, Vec::new(alloc))?;
+    status(alloc, words, &mut shelf, sink)
+}
+
 // The status of `run` over these files.
 fn run(alloc: Global, program: &[u8], job: &[u8], sink: &mut MemorySink) -> Result<u8, AllocError> {
-    let mut shelf = shelf(alloc, program, job, Vec::new(alloc))?;
-    status(alloc, &WORDS, &mut shelf, sink)
+    over(alloc, &RUN, program, job, sink)
+}
+
+// What it shows, the program, the job, the status, the text.
+type Case = (&'static str, &'static str, &'static str, u8, &'static str);
+
+fn all(rt: &impl Abort, alloc: Global, words: &[&str], cases: &[Case]) -> Result<(), Fail> {
+    for (name, program, job, status, text) in cases {
+        let mut sink = sink(alloc);
+        let found = over(alloc, words, program.as_bytes(), job.as_bytes(), &mut sink)?;
+        assert_eq!(rt; found, *status, "{name}");
+        assert_eq!(rt; sink.taken(), text.as_bytes(), "{name}");
+    }
+    Ok(())
 }
 
 // A sink that takes all.

@@ -22,7 +22,8 @@ use Rattle.px_code.specs.declared.plan.Plan.{Plan}
 use Rattle.px_code.specs.Frames.{blank, entry_slots, types_of}
 use Rattle.px_code.specs.Sound.{Finished, Fell, RunsFrom, BlocksRun, entered, first_block}
 use Rattle.px_code.specs.Cut.{ends_in_return as block_returns, exit_if, first_of, firsts_from, IsBlock, AreBlocks}
-use Rattle.px_pair.specs.Good.{ends_in_return, WritesInside, BlocksRunAsCode}
+use Rattle.px_code.specs.WellFormed.{ends_in_return}
+use Rattle.px_pair.specs.Good.{WritesInside, BlocksRunAsCode}
 use Rattle.px_pair.proofs.Good.{exit_at}
 use Rattle.px_pair.proofs.BlockRest.{whole, Body, Does, two, begun}
 use Rattle.px_pair.proofs.MethodRun.{AreFilled, enter, follow}
@@ -110,7 +111,7 @@ module _ (plan : Plan) (heap : List Object) (number : ℕ) (args : List Value) w
       does = enter all_blocks number size s.tail exits node word trees inside.0 (λ plain. follow all_blocks number size s.tail exits trees (ap (λ (r : Bool). ends_in_return r trees) (sym plain) ∙ returns) inside.1) s.b s.n s.later s.b.statements refl s.full s.is s.lines s.later_is s.filled heap slots 0 [] [] [] counted;
     }
 
-start_of : (plan : Plan) (number : ℕ) (m : Method) → AreBlocks plan.code plan.placement.sides plan.blocks → method_at plan.code.methods number ≡ Some m → ends_in_return false m.body ≡ true → Start plan.blocks.blocks (first_block plan number) number m.body
+pub start_of : (plan : Plan) (number : ℕ) (m : Method) → AreBlocks plan.code plan.placement.sides plan.blocks → method_at plan.code.methods number ≡ Some m → ends_in_return false m.body ≡ true → Start plan.blocks.blocks (first_block plan number) number m.body
 start_of plan zero m are there ends = cc
 start_of plan (suc d) m are there ends =
     subst (λ (f : ℕ). Start plan.blocks.blocks f (suc d) m.body) (sym first)

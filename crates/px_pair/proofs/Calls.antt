@@ -14,7 +14,7 @@ use Rattle.px_code.proofs.Staying.{stay}
 use Rattle.px_half.specs.Absorbed.{in_control}
 use Rattle.px_pair.specs.Agree.{Agree}
 use Rattle.px_pair.specs.Law.{NamesClasses, RunsAlike}
-use Rattle.px_pair.specs.Crossing.{FramesLike, bare}
+use Rattle.px_pair.specs.Crossing.{FramesLike, bare, quiet}
 use Rattle.px_pair.specs.Calls.{RunsAtBoth, finished, runs, falls, crosses, IsGoodBlock, AreGoodBlocks, CallAgrees, CallsAgree}
 use Rattle.px_pair.proofs.Steps.{blocks_run_alike}
 use Rattle.px_pair.proofs.StackKeeping as keeping
@@ -60,9 +60,9 @@ module _ (plan : Plan) (names : NamesClasses plan.code) (good : AreGoodBlocks pl
       }
   call_agrees side last near far last_near last_far n ran ending (crosses {new = new} {t = t} tells at taken after) one agree like fits machine =
       let is : new ≡ in_control plan t far far.heap = control.taken_is plan side near far one t agree fits like tells new taken in
-      call_agrees (other side) last new near last_near last_far n ran ending after one
-      (subst (λ (x : Machine). Agree plan (other side) x near one) (sym is) (control.new_agree plan side near far one t agree fits like tells))
-      (subst (λ (x : Machine). FramesLike x.frames (bare plan x near)) (sym is) (control.new_like plan side near far one t agree fits like tells)) fits machine
+      call_agrees (other side) last new (quiet near) last_near last_far n ran ending after one
+      (subst (λ (x : Machine). Agree plan (other side) x (quiet near) one) (sym is) (control.new_agree plan side near far one t agree fits like tells))
+      (subst (λ (x : Machine). FramesLike x.frames (bare plan x (quiet near))) (sym is) (control.new_like plan side near far one t agree fits like tells)) fits machine
 
 pub calls_agree : CallsAgree
 calls_agree plan names good side last near far last_near last_far n ran ending both one agree like fits machine = call_agrees plan names good side last near far last_near last_far n ran ending both one agree like fits machine

@@ -18,7 +18,7 @@ use Rattle.px_wire.specs.declared.transfer.Transfer.{Transfer}
 use Rattle.px_half.specs.Messages.{frame_told, slot_if, written_from, written_slots}
 use Rattle.px_half.specs.Absorbed.{leads, frame_fits, stack_fits, slot_count, slot_fits, slots_fit, with_room, with_transfer, transferred, in_control, blank_frame, with_slots, settled_frame}
 use Rattle.px_pair.specs.Agree.{Seen, seen, Agree}
-use Rattle.px_pair.specs.Crossing.{SlotsLike, FramesLike, bare, SlotsLead, CanTell, Tells, HeapCrossed, ControlCrosses}
+use Rattle.px_pair.specs.Crossing.{SlotsLike, FramesLike, bare, quiet, SlotsLead, CanTell, Tells, HeapCrossed, ControlCrosses}
 use Rattle.px_pair.proofs.HeapCrossing as heaps
 use Rattle.px_pair.proofs.StackCrossing as stacks
 use Rattle.px_pair.proofs.StackRoom as room
@@ -62,7 +62,7 @@ frames_alike (x ∷ xs) (y ∷ ys) e =
     let tail : map seen xs ≡ map seen ys = cc in
     (record { method = ap (λ (s : Seen). s.method) head; back = ap (λ (s : Seen). s.back) head; slots = slots_alike x.slots y.slots (ap (λ (s : Seen). s.values) head) }, frames_alike xs ys tail)
 
-seen_length : (xs ys : List Frame) → map seen xs ≡ map seen ys → length xs ≡ length ys
+pub seen_length : (xs ys : List Frame) → map seen xs ≡ map seen ys → length xs ≡ length ys
 seen_length [] [] e = refl
 seen_length [] (y ∷ ys) e = cc
 seen_length (x ∷ xs) [] e = cc
@@ -159,24 +159,24 @@ module _ (plan : Plan) (side : Side) (near far one : Machine) (t : Transfer) (ag
   abbrev pub new : Machine
   new = in_control plan t far far.heap
 
-  same_stack : map seen new.frames ≡ map seen near.frames
+  pub same_stack : map seen new.frames ≡ map seen near.frames
   same_stack =
       ap (λ (ss : List SlotAt). map seen (map settled_frame (with_slots ss (take t.base far.frames ++ map (blank_frame plan) t.frames)))) tells.slots
       ∙ ap (λ (n : ℕ). map seen (map settled_frame (with_slots (written_slots 0 near.frames) (take n far.frames ++ map (blank_frame plan) t.frames)))) tells.base
       ∙ ap (λ (fs : List FrameTold). map seen (map settled_frame (with_slots (written_slots 0 near.frames) (take near.base far.frames ++ map (blank_frame plan) fs)))) tells.frames
       ∙ stacks.stack_crosses plan near far like
 
-  new_length : length new.frames ≡ length near.frames
+  pub new_length : length new.frames ≡ length near.frames
   new_length = seen_length new.frames near.frames same_stack
 
   bare_is : bare plan new near ≡ near.frames
   bare_is = ap (λ (fs : List Frame). fs ++ map (blank_frame plan) (map frame_told (drop new.base new.frames))) (take_all near.frames new.base new_length)
       ∙ ap (λ (fs : List Frame). near.frames ++ map (blank_frame plan) (map frame_told fs)) (drop_all new.frames) ∙ append-nil near.frames
 
-  pub new_like : FramesLike new.frames (bare plan new near)
+  pub new_like : FramesLike new.frames (bare plan new (quiet near))
   new_like = subst (FramesLike new.frames) (sym bare_is) (frames_alike new.frames near.frames same_stack)
 
-  pub new_agree : Agree plan (other side) new near one
+  pub new_agree : Agree plan (other side) new (quiet near) one
   new_agree = record {
     frames = same_stack ∙ agree.frames;
     near_headers = crossed.headers;
@@ -231,7 +231,7 @@ module _ (plan : Plan) (side : Side) (near far one : Machine) (t : Transfer) (ag
   stack : map seen there.frames ≡ map seen near.frames
   stack = same_stack plan side near far one t agree fits can.like tells
 
-  new_can : CanTell plan there near
+  new_can : CanTell plan there (quiet near)
   new_can = record {
     like = new_like plan side near far one t agree fits can.like tells;
     base = omega (arith, seen_length there.frames near.frames stack);

@@ -33,7 +33,7 @@ use Rattle.px_half.specs.Messages.{is_marked, is_named, travels, AreUpdates}
 use Rattle.px_half.specs.Absorbed.{in_control}
 use Rattle.px_pair.specs.Agree.{KeepsCell, Agree}
 use Rattle.px_pair.specs.Law.{NamesClasses, RunsAlike}
-use Rattle.px_pair.specs.Crossing.{FramesLike, bare}
+use Rattle.px_pair.specs.Crossing.{FramesLike, bare, quiet}
 use Rattle.px_pair.specs.Calls.{RunsAtBoth, finished, runs, falls, crosses, IsGoodBlock, AreGoodBlocks}
 use Rattle.px_pair.specs.Fresh.{with_ran, place_of, events_of, MarksThere, IsCurrent, IsFresh, NothingStale, CommitsLeaveFresh}
 use Rattle.px_pair.proofs.Steps.{blocks_run_alike}
@@ -62,7 +62,7 @@ step_marks s m = by_ends a.ends
     by_ends (Err t) = ap (λ (ws : List Cell). m.marks ++ ws) (sym (append-nil a.writes))
     by_ends (Ok y) = valued_marks s.word y (after_act a m) ∙ ap (λ (ws : List Cell). m.marks ++ ws) (sym (append-nil a.writes))
 
-writes_more : (xs ys : List Ran) → all_writes (xs ++ ys) ≡ all_writes xs ++ all_writes ys
+pub writes_more : (xs ys : List Ran) → all_writes (xs ++ ys) ≡ all_writes xs ++ all_writes ys
 writes_more [] ys = refl
 writes_more (r ∷ xs) ys = ap (λ (ws : List Cell). r.writes ++ ws) (writes_more xs ys) ∙ sym (append_assoc r.writes (all_writes xs) (all_writes ys))
 
@@ -73,7 +73,7 @@ then_marks marks one rest RunsOn h k =
 then_marks marks one rest Returned h k = h
 then_marks marks one rest (Threw t) h k = h
 
-steps_marks : (statements : List Statement) (m : Machine) → (steps statements m).machine.marks ≡ m.marks ++ all_writes (steps statements m).ran
+pub steps_marks : (statements : List Statement) (m : Machine) → (steps statements m).machine.marks ≡ m.marks ++ all_writes (steps statements m).ran
 steps_marks [] m = sym (append-nil m.marks)
 steps_marks (s ∷ rest) m = then_marks m.marks (step s m) rest (step s m).stop (step_marks s m) (steps_marks rest (step s m).machine)
 
@@ -120,7 +120,7 @@ current_on plan side old new marks events e h = record {
   there = λ c kept m s. h.there c (λ hd is. kept hd (e c.object ∙ is)) m s;
 }
 
-fresh_on : (plan : Plan) (side : Side) (old new : List Object) (marks : List Cell) (events : List Event) → ((o : ℕ) → header_at new o ≡ header_at old o) → IsFresh plan side old marks events → IsFresh plan side new marks events
+pub fresh_on : (plan : Plan) (side : Side) (old new : List Object) (marks : List Cell) (events : List Event) → ((o : ℕ) → header_at new o ≡ header_at old o) → IsFresh plan side old marks events → IsFresh plan side new marks events
 fresh_on plan side old new marks events e h = (current_on plan side old new marks events e h.0, h.1)
 
 same_other : (side : Side) → other (other side) ≡ side
@@ -214,9 +214,9 @@ module _ (plan : Plan) (names : NamesClasses plan.code) (good : AreGoodBlocks pl
   fresh side last near far last_near last_far n ran ending (crosses {new = new} {t = t} tells at taken after) one agree like fits machine marks events before =
       let is : new ≡ in_control plan t far far.heap = control.taken_is plan side near far one t agree fits like tells new taken in
       let now : List Event = Brought (other side) (map place_of t.updates.cells) ∷ events in
-      fresh (other side) last new near last_near last_far n ran ending after one
-      (subst (λ (x : Machine). Agree plan (other side) x near one) (sym is) (control.new_agree plan side near far one t agree fits like tells))
-      (subst (λ (x : Machine). FramesLike x.frames (bare plan x near)) (sym is) (control.new_like plan side near far one t agree fits like tells)) fits machine marks.1 now
+      fresh (other side) last new (quiet near) last_near last_far n ran ending after one
+      (subst (λ (x : Machine). Agree plan (other side) x (quiet near) one) (sym is) (control.new_agree plan side near far one t agree fits like tells))
+      (subst (λ (x : Machine). FramesLike x.frames (bare plan x (quiet near))) (sym is) (control.new_like plan side near far one t agree fits like tells)) fits machine marks.1 now
       (subst (λ (x : Machine). IsFresh plan (other side) one.heap x.marks now) (sym is) (current_over plan side near far one t.updates agree tells.updates marks.0 events before.0, before.1))
 
 pub nothing_stale : NothingStale

@@ -16,7 +16,8 @@ use Rattle.px_code.specs.CodeRun.{method_at}
 use Rattle.px_code.specs.Machine.{is_return, block_at, exit_to}
 use Rattle.px_code.specs.Cut.{Line, tree_line, lines_from, statement_line, block_lines, IsFilled, IsBlock, ends_in_return as block_returns, exit_if, AreInRow}
 use Rattle.px_code.specs.Law.{AreStatements, NoLiteralReference}
-use Rattle.px_pair.specs.Good.{HasNoLiteral, ends_in_return, CutIsGood}
+use Rattle.px_code.specs.WellFormed.{ends_in_return}
+use Rattle.px_pair.specs.Good.{HasNoLiteral, CutIsGood}
 use Rattle.px_pair.proofs.FreshCalls.{all_more}
 
 -- ---- each line is a statement of its method

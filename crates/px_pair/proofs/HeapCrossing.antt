@@ -24,7 +24,7 @@ use Rattle.px_pair.proofs.Heaps.{put, at_cell, cell_written, header_written}
 
 -- ---- what is where
 
-same_places : (o i o' i' : ℕ) → at_cell o i o' i' ≡ true → (o ≡ o') × (i ≡ i')
+pub same_places : (o i o' i' : ℕ) → at_cell o i o' i' ≡ true → (o ≡ o') × (i ≡ i')
 same_places o i o' i' h =
     let both = and_parts (o == o') (i == i') h in
     (eqb-true o o' both.0, eqb-true i i' both.1)
@@ -37,7 +37,7 @@ or_later : (a b : Bool) → b ≡ true → (a || b) ≡ true
 or_later true b h = refl
 or_later false b h = h
 
-still_there : (b : Bool) (v : Value) (n : Option Value) → is_some (cond b (put v n) n) ≡ is_some n
+pub still_there : (b : Bool) (v : Value) (n : Option Value) → is_some (cond b (put v n) n) ≡ is_some n
 still_there true v None = refl
 still_there true v (Some n) = refl
 still_there false v n = refl

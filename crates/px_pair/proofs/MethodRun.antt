@@ -11,7 +11,8 @@ use Rattle.px_code.specs.Act.{slot_of}
 use Rattle.px_code.specs.CodeRun.{body_run}
 use Rattle.px_code.specs.Machine.{is_return, block_at, exit_to}
 use Rattle.px_code.specs.Cut.{Line, tree_line, statement_line, block_lines, IsFilled, ends_in_return as block_returns, exit_if}
-use Rattle.px_pair.specs.Good.{IsBelowIf, ends_in_return, WritesInside}
+use Rattle.px_code.specs.WellFormed.{ends_in_return}
+use Rattle.px_pair.specs.Good.{IsBelowIf, WritesInside}
 use Rattle.px_pair.proofs.BlockRest.{does_next, two, begun, Follows, one_more}
 
 -- ---- all statements of a method

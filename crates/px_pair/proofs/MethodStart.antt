@@ -10,7 +10,7 @@ use Rattle.px_code.specs.declared.block.Statement.{Statement}
 use Rattle.px_code.specs.declared.block.Block.{Block}
 use Rattle.px_code.specs.Machine.{block_at}
 use Rattle.px_code.specs.Cut.{Line, tree_line, lines_from, statement_line, block_lines, IsFilled, first_of}
-use Rattle.px_pair.specs.Good.{ends_in_return}
+use Rattle.px_code.specs.WellFormed.{ends_in_return}
 use Rattle.px_pair.proofs.Heaps.{eq_self}
 use Rattle.px_pair.proofs.MethodRun.{AreFilled}
 

@@ -34,22 +34,22 @@ use Rattle.px_pair.proofs.Statements.{throws_first, reads_kept, new_named, named
 
 -- ---- what a value does to the stack
 
-abbrev frames_after : Word → Value → List Frame → List Frame
+abbrev pub frames_after : Word → Value → List Frame → List Frame
 frames_after (w.Return a) x frames = let after = answered (given a x) frames in take (top after) after
 frames_after word x frames = filled_if frames (top frames) (slot_of word) x
 
-abbrev base_after : Word → Value → Machine → ℕ
+abbrev pub base_after : Word → Value → Machine → ℕ
 base_after (w.Return a) x m = min m.base (top (answered (given a x) m.frames))
 base_after word x m = m.base
 
-value_is : (word : Word) (x : Value) (m : Machine) → with_value word x m ≡ record m { frames = frames_after word x m.frames; base = base_after word x m }
+pub value_is : (word : Word) (x : Value) (m : Machine) → with_value word x m ≡ record m { frames = frames_after word x m.frames; base = base_after word x m }
 value_is (w.Set to a) x m = refl
 value_is (w.Op op to a b) x m = refl
 value_is (w.Get to of class field) x m = refl
 value_is (w.Put of class field a) x m = refl
 value_is (w.Return a) x m = refl
 
-same_after : (word : Word) (x : Value) (fs gs : List Frame) → map seen fs ≡ map seen gs → map seen (frames_after word x fs) ≡ map seen (frames_after word x gs)
+pub same_after : (word : Word) (x : Value) (fs gs : List Frame) → map seen fs ≡ map seen gs → map seen (frames_after word x fs) ≡ map seen (frames_after word x gs)
 same_after (w.Set to a) x fs gs e = ap (λ n. map seen (filled_if fs n (Some to) x)) (same_top fs gs e) ∙ same_filled_if fs gs (top gs) (Some to) x e
 same_after (w.Op op to a b) x fs gs e = ap (λ n. map seen (filled_if fs n (Some to) x)) (same_top fs gs e) ∙ same_filled_if fs gs (top gs) (Some to) x e
 same_after (w.Get to of class field) x fs gs e = ap (λ n. map seen (filled_if fs n (Some to) x)) (same_top fs gs e) ∙ same_filled_if fs gs (top gs) (Some to) x e
@@ -124,7 +124,7 @@ module _ (plan : Plan) (m : ℕ) (side : Side) where
       abbrev there : Acted
       there = acted (act_of s.word slots) one.heap
 
-      alike : ActsAlike plan side near far near.heap near.marks one.heap here there
+      pub alike : ActsAlike plan side near far near.heap near.marks one.heap here there
       alike = acts_alike plan side near far (act_of s.word slots) near.heap near.marks one.heap (λ o i. let c = agree.copies o i in record { near_there = c.near_there; far_there = c.far_there; kept = c.kept; written = c.written; far_kept = c.far_kept })
           (reads_kept plan m s.node s.word side one.heap there.reads has placed (word_stays plan.code m s.node s.word one.heap slots has plain fits.heap fits.frame).reads)
 

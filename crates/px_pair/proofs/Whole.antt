@@ -31,7 +31,7 @@ use Rattle.px_pair.proofs.Sessions.{calls_begin, commits_keep}
 use Rattle.px_pair.proofs.Good.{cut_is_good}
 use Rattle.px_pair.proofs.Entries.{entries_fit}
 use Rattle.px_pair.proofs.Good.{each_at}
-use Rattle.px_pair.specs.Good.{ends_in_return}
+use Rattle.px_code.specs.WellFormed.{ends_in_return}
 use Rattle.px_pair.proofs.BlocksRun.{blocks_run_as_code}
 use Rattle.px_code.specs.Frames.{types_of}
 use Rattle.px_value.specs.declared.ty.Ty.{Ty}
@@ -39,16 +39,16 @@ use Rattle.std.specs.List.{AllByRecursion}
 
 -- ---- blocks run in one way
 
-record SameRun (ran that_ran : List Ran) (ending that_ending : Ending) (last that_last : Machine) : Type 0 where
-  ran_is : ran ≡ that_ran
-  ending_is : ending ≡ that_ending
-  last_is : last ≡ that_last
+pub record SameRun (ran that_ran : List Ran) (ending that_ending : Ending) (last that_last : Machine) : Type 0 where
+  pub ran_is : ran ≡ that_ran
+  pub ending_is : ending ≡ that_ending
+  pub last_is : last ≡ that_last
 
 same_block : (blocks : List Block) (n : ℕ) (b c : Block) → block_at blocks n ≡ Some b → block_at blocks n ≡ Some c → b ≡ c
 same_block blocks n b c is is' = let e : Some b ≡ Some c = sym is ∙ is' in cc
 
 module _ (blocks : List Block) where
-  one_run : (n : ℕ) (m : Machine) (ran that_ran : List Ran) (ending that_ending : Ending) (last that_last : Machine) → RunsFrom blocks n m ran ending last → RunsFrom blocks n m that_ran that_ending that_last → SameRun ran that_ran ending that_ending last that_last
+  pub one_run : (n : ℕ) (m : Machine) (ran that_ran : List Ran) (ending that_ending : Ending) (last that_last : Machine) → RunsFrom blocks n m ran ending last → RunsFrom blocks n m that_ran that_ending that_last → SameRun ran that_ran ending that_ending last that_last
   one_run _ m _ _ _ _ _ _ sound.finished sound.finished = record { ran_is = refl; ending_is = refl; last_is = refl }
   one_run _ m _ _ _ _ _ _ sound.finished (sound.runs is going after) = cc
   one_run _ m _ _ _ _ _ _ sound.finished (sound.falls is fell) = cc
@@ -82,13 +82,13 @@ does plan begin method side near far ran ending (Gives x s) agrees run = is_call
 does plan begin method side near far ran ending (Throws t s) agrees run = is_call plan begin method side near far s.shared.heap ran s.ran ending (Fell t) Null agrees run
 does plan begin method side near far ran ending (Asks q) agrees run = absurd q
 
-method_there : (methods : List Method) (n : ℕ) (m : Method) → method_at methods n ≡ Some m → n ≤ length methods
+pub method_there : (methods : List Method) (n : ℕ) (m : Method) → method_at methods n ≡ Some m → n ≤ length methods
 method_there methods zero m e = cc
 method_there [] (suc n) m e = cc
 method_there (x ∷ methods) (suc zero) m e = omega arith
 method_there (x ∷ methods) (suc (suc n)) m e = let below = method_there methods (suc n) m e in omega (arith, below)
 
-returning : (methods : List Method) (n : ℕ) (m : Method) → AllByRecursion (λ (x : Method). ends_in_return false x.body ≡ true) methods → method_at methods n ≡ Some m → ends_in_return false m.body ≡ true
+pub returning : (methods : List Method) (n : ℕ) (m : Method) → AllByRecursion (λ (x : Method). ends_in_return false x.body ≡ true) methods → method_at methods n ≡ Some m → ends_in_return false m.body ≡ true
 returning methods zero m all e = cc
 returning methods (suc n) m all e = each_at (λ (x : Method). ends_in_return false x.body ≡ true) methods n m all e
 
@@ -105,7 +105,7 @@ calls_do_as_code plan app db one method args rest served last last_near last_far
 
 module _ (plan : Plan) (names : NamesClasses plan.code) (good : AreGoodBlocks plan) where
   -- the heap fits its code where blocks have run
-  run_fits : (n : ℕ) (m last : Machine) (ran : List Ran) (ending : Ending) → RunsFrom plan.blocks.blocks n m ran ending last → Fits plan.code m.heap → ((b : Block) → block_at plan.blocks.blocks n ≡ Some b → MachineFits plan.code b.method m) → Fits plan.code last.heap
+  pub run_fits : (n : ℕ) (m last : Machine) (ran : List Ran) (ending : Ending) → RunsFrom plan.blocks.blocks n m ran ending last → Fits plan.code m.heap → ((b : Block) → block_at plan.blocks.blocks n ≡ Some b → MachineFits plan.code b.method m) → Fits plan.code last.heap
   run_fits _ m _ _ _ sound.finished fits machine = fits
   run_fits n m last _ ending (sound.runs {b = b} {ran = ran} is going after) fits machine =
       let g : IsGoodBlock plan b = good n b is in
@@ -122,7 +122,7 @@ same_value None (Some y) e = cc
 same_value (Some x) None e = cc
 same_value (Some x) (Some y) e = cc
 
-low_value : (fs gs : List Frame) → map seen fs ≡ map seen gs → value_in (slots_at fs 0) 0 ≡ value_in (slots_at gs 0) 0
+pub low_value : (fs gs : List Frame) → map seen fs ≡ map seen gs → value_in (slots_at fs 0) 0 ≡ value_in (slots_at gs 0) 0
 low_value [] [] e = refl
 low_value [] (g ∷ gs) e = cc
 low_value (f ∷ fs) [] e = cc

@@ -17,7 +17,7 @@ use Rattle.px_wire.specs.declared.transfer.Transfer.{Transfer}
 use Rattle.px_half.specs.Absorbed.{with_transfer}
 use Rattle.px_pair.specs.Agree.{Agree}
 use Rattle.px_pair.specs.Law.{NamesClasses}
-use Rattle.px_pair.specs.Crossing.{FramesLike, bare, Tells}
+use Rattle.px_pair.specs.Crossing.{FramesLike, bare, Tells, quiet}
 
 -- From a side with control, its machine and the other one, at a block: the statements that run, how it ends, and the side, the machines and the statements so far.
 -- A block runs at its side; a message may hand control over before any block, where the other end takes it in; at block 0 a call has ended, at APP.
@@ -32,7 +32,7 @@ pub data RunsAtBoth (plan : Plan) : Side → Machine → Machine → ℕ → Lis
       → RunsAtBoth plan side near far n (steps b.statements near).ran (Fell t) side (steps b.statements near).machine far
   crosses : {side last : Side} {near far new last_near last_far : Machine} {n : ℕ} {t : Transfer} {ran : List Ran} {ending : Ending}
       → Tells plan near t → t.block ≡ n → with_transfer plan t far ≡ Some new
-      → RunsAtBoth plan (other side) new near n ran ending last last_near last_far
+      → RunsAtBoth plan (other side) new (quiet near) n ran ending last last_near last_far
       → RunsAtBoth plan side near far n ran ending last last_near last_far
 
 -- a block of a plan whose sends stand where they have to; one that doesn't return leads to a block of its method

@@ -92,12 +92,16 @@ pub record Tells (plan : Plan) (near : Machine) (t : Transfer) : Type 0 where
   pub slots : t.slots ≡ written_slots 0 near.frames
   pub updates : AreUpdates (Some plan) (length near.heap) near t.updates
 
+-- what an end has that has sent its message: nothing is marked or named
+abbrev pub quiet : Machine → Machine
+quiet m = record m { marks = []; named = [] }
+
 -- the other end takes it in, has control, and both have the one heap and the one stack again
 pub record ControlCrossed (plan : Plan) (side : Side) (near far one : Machine) (t : Transfer) : Type 0 where
   pub machine : Machine
   pub taken : with_transfer plan t far ≡ Some machine
-  pub agree : Agree plan (other side) machine near one
-  pub can_tell : CanTell plan machine near
+  pub agree : Agree plan (other side) machine (quiet near) one
+  pub can_tell : CanTell plan machine (quiet near)
 
 abbrev pub ControlCrosses : Type 0
 ControlCrosses = (plan : Plan) (side : Side) (near far one : Machine) (t : Transfer) → Agree plan side near far one → Fits plan.code one.heap → CanTell plan near far → Tells plan near t → ControlCrossed plan side near far one t

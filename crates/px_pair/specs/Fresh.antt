@@ -19,7 +19,7 @@ use Rattle.px_wire.specs.declared.updates.Updates.{Updates}
 use Rattle.px_half.specs.Messages.{is_marked, AreUpdates}
 use Rattle.px_pair.specs.Agree.{KeepsCell, Agree}
 use Rattle.px_pair.specs.Law.{NamesClasses}
-use Rattle.px_pair.specs.Crossing.{FramesLike, bare}
+use Rattle.px_pair.specs.Crossing.{FramesLike, bare, quiet}
 use Rattle.px_pair.specs.Calls.{RunsAtBoth, finished, runs, falls, crosses, AreGoodBlocks}
 
 -- ---- events, the latest first
@@ -45,14 +45,14 @@ unfoldable pub events_of : (plan : Plan) (side : Side) (near far : Machine) (n :
 events_of plan _ near far _ _ _ _ _ _ finished events = events
 events_of plan side near far n _ ending last last_near last_far (runs {b = b} {ran = ran} is at going after) events = events_of plan side _ far _ ran ending last last_near last_far after (with_ran side (steps b.statements near).ran events)
 events_of plan side near far n _ _ _ _ _ (falls {b = b} is at fell) events = with_ran side (steps b.statements near).ran events
-events_of plan side near far n ran ending last last_near last_far (crosses {new = new} {t = t} tells at taken after) events = events_of plan (other side) new near n ran ending last last_near last_far after (Brought (other side) (map place_of t.updates.cells) ∷ events)
+events_of plan side near far n ran ending last last_near last_far (crosses {new = new} {t = t} tells at taken after) events = events_of plan (other side) new (quiet near) n ran ending last last_near last_far after (Brought (other side) (map place_of t.updates.cells) ∷ events)
 
 -- the cells that were written are there, where a message tells them
 unfoldable pub MarksThere : (plan : Plan) (side : Side) (near far : Machine) (n : ℕ) (ran : List Ran) (ending : Ending) (last : Side) (last_near last_far : Machine) → RunsAtBoth plan side near far n ran ending last last_near last_far → Type 0
 MarksThere plan _ near far _ _ _ _ _ _ finished = Unit {0}
 MarksThere plan side near far n _ ending last last_near last_far (runs {b = b} {ran = ran} is at going after) = MarksThere plan side _ far _ ran ending last last_near last_far after
 MarksThere plan side near far n _ _ _ _ _ (falls is at fell) = Unit {0}
-MarksThere plan side near far n ran ending last last_near last_far (crosses {new = new} tells at taken after) = ((place index : ℕ) → is_marked near.marks place index ≡ true → is_some (cell_at near.heap place index) ≡ true) × MarksThere plan (other side) new near n ran ending last last_near last_far after
+MarksThere plan side near far n ran ending last last_near last_far (crosses {new = new} tells at taken after) = ((place index : ℕ) → is_marked near.marks place index ≡ true → is_some (cell_at near.heap place index) ≡ true) × MarksThere plan (other side) new (quiet near) n ran ending last last_near last_far after
 
 -- no side's copy of what it keeps is old, but for what the side with control wrote since control came
 pub record IsCurrent (plan : Plan) (side : Side) (heap : List Object) (marks : List Cell) (events : List Event) : Type 0 where

@@ -1,5 +1,5 @@
 -- When the blocks of a plan are good ones.
-use Rattle.std.specs.Prelude.{◌≡◌, ℕ, Bool, true, false, List, [], ◌∷◌, length, ◌+◌, ◌<◌, ◌≤◌, Option, Some, None}
+use Rattle.std.specs.Prelude.{◌≡◌, ℕ, true, false, List, [], ◌∷◌, length, ◌+◌, ◌<◌, ◌≤◌, Option, Some, None}
 use Rattle.std.specs.List.{AllByRecursion}
 use Rattle.px_value.specs.declared.value.Value.{Value}
 use Rattle.px_value.specs.declared.object.Object.{Object}
@@ -11,7 +11,8 @@ use Rattle.px_code.specs.declared.code.Code.{Code}
 use Rattle.px_code.specs.declared.block.Block.{Block}
 use Rattle.px_code.specs.declared.plan.Plan.{Plan}
 use Rattle.px_code.specs.Points.{HasStatement}
-use Rattle.px_code.specs.Machine.{is_return, block_at}
+use Rattle.px_code.specs.Machine.{block_at}
+use Rattle.px_code.specs.WellFormed.{ends_in_return}
 use Rattle.px_code.specs.Cut.{AreBlocks}
 use Rattle.px_code.specs.Law.{HasNoReference, MachineFits}
 use Rattle.px_code.specs.Sound.{IsInput, entered, first_block, BlocksRun, run_of}
@@ -22,11 +23,6 @@ use Rattle.px_pair.specs.Calls.{AreGoodBlocks}
 -- no literal of the code is a reference
 abbrev pub HasNoLiteral : Code → Type 0
 HasNoLiteral code = (m node : ℕ) (word : Word) → HasStatement code m node word → HasNoReference word
-
--- the last statement is a return; `before` tells it of those before
-abbrev pub ends_in_return : Bool → List Tree → Bool
-ends_in_return before [] = before
-ends_in_return before (Do node word ∷ trees) = ends_in_return (is_return word) trees
 
 abbrev pub AllReturn : Code → Type 0
 AllReturn code = AllByRecursion (λ (m : Method). ends_in_return false m.body ≡ true) code.methods

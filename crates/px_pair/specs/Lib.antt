@@ -6,3 +6,13 @@ pub mod Sessions
 pub mod Fresh
 pub mod Good
 pub mod Whole
+pub mod Story
+pub mod Servable
+pub mod Telling
+pub mod Ends
+pub mod Served
+pub mod Once
+pub mod Callable
+pub mod Pair
+pub mod Replies
+pub mod FirstHeap

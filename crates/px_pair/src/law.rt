@@ -5,6 +5,11 @@ ghost use Rattle.px_pair.specs.Calls.{CallsAgree};
 ghost use Rattle.px_pair.specs.Whole.{CallsDoAsCode, CommitsAsCode};
 ghost use Rattle.px_pair.specs.Good.{CutIsGood, EntriesFit, BlocksRunAsCode};
 ghost use Rattle.px_pair.specs.Fresh.{NothingStale, CommitsLeaveFresh};
+ghost use Rattle.px_pair.specs.Served.{TalksAreTold, CallsAreServed};
+ghost use Rattle.px_pair.specs.Once.{StoriesAreOne};
+ghost use Rattle.px_pair.specs.Servable.{CompiledIsSound};
+ghost use Rattle.px_pair.specs.Replies.{RepliesAreDeclared};
+ghost use Rattle.px_pair.specs.FirstHeap.{FirstHeapFits};
 ghost use Rattle.px_pair.specs.Sessions.{NewRests, CallsBegin, CommitsKeep};
 
 /// Where two ends together have one heap and one stack, a block does at the end with control what it does on that heap: the same statements run, with the same reads and writes, and both ends have one heap again. What it reads is the newest value.
@@ -80,4 +85,34 @@ pub fn blocks_run_as_code()
 /// After such a call and its commit both ends have the heap that the code leaves, APP has its reply, and the next call may begin.
 pub fn commits_as_code()
     ensures { CommitsAsCode }
+{}
+
+/// What happens in a call at two ends, with every message between them, is what happens on the one heap, where a message has the values of that heap.
+pub fn talks_are_told()
+    ensures { TalksAreTold }
+{}
+
+/// From two ends that have one heap, a call of an entry does what its code does on that heap, wherever its blocks run and however control goes over: where it ends, APP has the code's reply and the commit leaves both ends with the code's heap; where it throws, the code throws the same. No read of it is stale, and what happens in it, with every message, is what happens on the one heap.
+pub fn calls_are_served()
+    ensures { CallsAreServed }
+{}
+
+/// What is told of a call on the one heap, with every message, is fixed by the plan and the machine with which the call begins.
+pub fn stories_are_one()
+    ensures { StoriesAreOne }
+{}
+
+/// A plan whose blocks are cut from well-formed code, and that lists what each side keeps, is a sound one for its code.
+pub fn compiled_is_sound()
+    ensures { CompiledIsSound }
+{}
+
+/// Well-formed code gives a value where its method has a type for it, so the reply of an end is that of the code.
+pub fn replies_are_declared()
+    ensures { RepliesAreDeclared }
+{}
+
+/// The heap with which a session begins fits the code of its plan, and can be told.
+pub fn first_heap_fits()
+    ensures { FirstHeapFits }
 {}

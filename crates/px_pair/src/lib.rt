@@ -1,4 +1,11 @@
 //! Both ends of a session, which exchange only bytes.
 #![tactic(auto)]
 
+mod ends;
 pub mod law;
+mod pair;
+mod stage;
+mod tell;
+
+pub use pair::{Need, Pair};
+pub use stage::Stage;

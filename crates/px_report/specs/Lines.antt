@@ -26,12 +26,14 @@ object_line classes place object = line (decimal place ∷ kind_name classes obj
 abbrev pub heap_text : List (List ℕ) → ℕ → Session → List ℕ
 heap_text classes number session = line (codes "heap" ∷ decimal number ∷ []) ++ numbered (object_line classes) 0 session.heap
 
--- the calls in order, and the heap of each session; the sessions have numbers from 1
-unfoldable pub run_text : List (List ℕ) → List Made → List Session → List ℕ
-run_text classes made sessions =
-    line (codes "calls" ∷ [])
-    ++ flat_map call_line made
-    ++ line (codes "tables" ∷ [])
+-- what the calls leave, with which each text ends: the tables, and the heap of each session; the sessions have numbers from 1
+abbrev pub state_text : List (List ℕ) → List Session → List ℕ
+state_text classes sessions =
+    line (codes "tables" ∷ [])
     ++ line (codes "heaps" ∷ [])
     ++ numbered (heap_text classes) 1 sessions
     ++ line (codes "done" ∷ [])
+
+-- the calls in order, and what they leave
+unfoldable pub run_text : List (List ℕ) → List Made → List Session → List ℕ
+run_text classes made sessions = line (codes "calls" ∷ []) ++ flat_map call_line made ++ state_text classes sessions

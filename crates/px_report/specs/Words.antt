@@ -1,4 +1,4 @@
--- How values, replies and kinds are printed.
+-- How values, replies, parts and kinds are printed.
 use Rattle.std.specs.Prelude.{ℕ, ◌==◌, cond, true, false, List, [], ◌∷◌, ◌++◌, codes, decimal, get_or}
 use Rattle.std.specs.List.{flat_map}
 use Rattle.std.specs.Fmt.{signed_decimal}
@@ -44,11 +44,19 @@ reply_text reply.Void = codes "void"
 reply_text (reply.Value v) = value_text v
 reply_text (reply.Threw t) = codes "threw " ++ thrown_name t
 
+-- ---- names by number
+
+-- the name at this place; a thing that isn't there has none
+abbrev pub name_at : List (List ℕ) → ℕ → List ℕ
+name_at names place = get_or names place []
+
+abbrev pub part_name : List (List ℕ) → ℕ → List ℕ
+part_name parts part = name_at parts part
+
 -- ---- kinds
 
--- the name of the class of this number; a class that isn't there has none
 abbrev pub class_name : List (List ℕ) → ℕ → List ℕ
-class_name classes class = get_or classes class []
+class_name classes class = name_at classes class
 
 -- the types of the elements of arrays: the four that are built in, then the classes
 abbrev pub element_name : List (List ℕ) → ℕ → List ℕ

@@ -2,13 +2,17 @@
 #![tactic(auto)]
 
 mod calls;
+mod events;
 mod heaps;
 mod names;
 mod refusal;
+mod report;
 mod run;
+mod state;
 #[cfg(test)]
 mod tests;
 mod words;
 
 pub use refusal::refusal_text;
+pub use report::report_text;
 pub use run::run_text;

@@ -1,6 +1,6 @@
-//! The names of what is thrown and of kinds of objects.
+//! The names of what is thrown, of parts and of kinds of objects.
 ghost use Rattle.std.specs.Prelude.{◌≡◌, ◌++◌, OnOk};
-ghost use Rattle.px_report.specs.Words.{class_name, element_name, kind_name, thrown_name};
+ghost use Rattle.px_report.specs.Words.{class_name, element_name, kind_name, name_at, part_name, thrown_name};
 
 use px_value::{Kind, Text, Thrown};
 use std::alloc::AllocError;
@@ -13,13 +13,25 @@ pub fn thrown_name(thrown: Thrown) -> &'static [u8]
     }
 }
 
-fn class_name(classes: &[Text], class: u16) -> &[u8]
-    ensures { result.now ≡ class_name classes.now class }
+fn name_at(names: &[Text], place: usize) -> &[u8]
+    ensures { result.now ≡ name_at names.now place }
 {
-    match classes.get(class as usize) {
+    match names.get(place) {
         Some(name) => name.as_slice(),
         None => b"",
     }
+}
+
+pub fn part_name(parts: &[Text], part: u8) -> &[u8]
+    ensures { result.now ≡ part_name parts.now part }
+{
+    name_at(parts, part as usize)
+}
+
+fn class_name(classes: &[Text], class: u16) -> &[u8]
+    ensures { result.now ≡ class_name classes.now class }
+{
+    name_at(classes, class as usize)
 }
 
 fn element_name(classes: &[Text], element: u16) -> &[u8]

@@ -3,7 +3,7 @@ ghost use Rattle.std.specs.Prelude.{◌≡◌, IfOk};
 ghost use Rattle.px_report.specs.Lines.{run_text};
 
 use crate::calls::push_calls;
-use crate::heaps::push_heaps;
+use crate::state::push_state;
 use px_mean::{Made, Session};
 use px_value::Text;
 use std::alloc::{AllocError, Global};
@@ -20,8 +20,6 @@ pub fn run_text(
 {
     let mut text = Vec::from_slice(alloc, b"calls\n")?;
     push_calls(&mut text, made)?;
-    text.extend_from_slice(b"tables\nheaps\n")?;
-    push_heaps(&mut text, classes, sessions)?;
-    text.extend_from_slice(b"done\n")?;
+    push_state(&mut text, classes, sessions)?;
     Ok(text)
 }

@@ -15,6 +15,17 @@ pub fn push_number<I: Integer>(text: &mut Vec<u8>, number: I) -> Result<(), Allo
     text.extend_from_slice(Buffer::new().format(number).as_bytes())
 }
 
+pub fn push_labelled<I: Integer>(
+    text: &mut Vec<u8>,
+    label: &[u8],
+    number: I,
+) -> Result<(), AllocError>
+    ensures { OnOk result (text.new.items ≡ text.old.items ++ label.now ++ I.text number) }
+{
+    text.extend_from_slice(label)?;
+    push_number(text, number)
+}
+
 fn push_escaped(text: &mut Vec<u8>, byte: u8) -> Result<(), AllocError>
     ensures { OnOk result (text.new.items ≡ text.old.items ++ escaped byte) }
 {
@@ -27,7 +38,7 @@ fn push_escaped(text: &mut Vec<u8>, byte: u8) -> Result<(), AllocError>
     }
 }
 
-fn push_quoted(text: &mut Vec<u8>, bytes: &[u8]) -> Result<(), AllocError>
+pub fn push_quoted(text: &mut Vec<u8>, bytes: &[u8]) -> Result<(), AllocError>
     ensures { OnOk result (text.new.items ≡ text.old.items ++ quoted bytes.now) }
 {
     text.push(b'"')?;

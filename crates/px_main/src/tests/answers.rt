@@ -1,11 +1,6 @@
 //! What `run` answers over whole files.
-use super::{JOB, PROGRAM, TEXT, run, sink};
-use std::alloc::Global;
-use std::process::Abort;
+use super::{Case, JOB, PROGRAM, RUN, TEXT, all, run, sink};
 use std::test::Fail;
-
-// What it shows, the program, the job, the status, the text.
-type Case = (&'static str, &'static str, &'static str, u8, &'static str);
 
 const DONE: [Case; 6] = [
     ("sums wrap round", PROGRAM, JOB, 0, TEXT),
@@ -85,7 +80,7 @@ const PROGRAM_REFUSED: [Case; 6] = [
     ),
 ];
 
-const JOB_REFUSED: [Case; 10] = [
+const JOB_REFUSED: [Case; 11] = [
     (
         "a line that isn't built",
         PROGRAM,
@@ -93,6 +88,7 @@ const JOB_REFUSED: [Case; 10] = [
         6,
         "job 1 Later\n",
     ),
+    ("a part", PROGRAM, "part p upto 1000", 6, "job 1 Later\n"),
     (
         "an unknown entry",
         PROGRAM,
@@ -152,29 +148,19 @@ const JOB_REFUSED: [Case; 10] = [
     ),
 ];
 
-fn all(rt: &impl Abort, alloc: Global, cases: &[Case]) -> Result<(), Fail> {
-    for (name, program, job, status, text) in cases {
-        let mut sink = sink(alloc);
-        let found = run(alloc, program.as_bytes(), job.as_bytes(), &mut sink)?;
-        assert_eq!(rt; found, *status, "{name}");
-        assert_eq!(rt; sink.taken(), text.as_bytes(), "{name}");
-    }
-    Ok(())
-}
-
 #[test]
 fn jobs_are_run(rt: HostRuntime) -> Result<(), Fail> {
-    all(&rt, rt.alloc(), &DONE)
+    all(&rt, rt.alloc(), &RUN, &DONE)
 }
 
 #[test]
 fn programs_are_refused(rt: HostRuntime) -> Result<(), Fail> {
-    all(&rt, rt.alloc(), &PROGRAM_REFUSED)
+    all(&rt, rt.alloc(), &RUN, &PROGRAM_REFUSED)
 }
 
 #[test]
 fn jobs_are_refused(rt: HostRuntime) -> Result<(), Fail> {
-    all(&rt, rt.alloc(), &JOB_REFUSED)
+    all(&rt, rt.alloc(), &RUN, &JOB_REFUSED)
 }
 
 #[test]

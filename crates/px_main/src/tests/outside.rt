@@ -1,5 +1,5 @@
 //! Words that are no command, and an outside that fails.
-use super::{JOB, PROGRAM, TEXT, WORDS, shelf, sink, status};
+use super::{JOB, PROGRAM, RUN, TEXT, shelf, sink, status};
 use px_outside::{MemorySink, StdShelf, StdSink};
 use std::fmt::Display;
 use std::io::{self, ErrorKind};
@@ -10,7 +10,7 @@ fn other_words_are_no_command(rt: HostRuntime) -> Result<(), Fail> {
     let alloc = rt.alloc();
     let mut shelf = shelf(alloc, PROGRAM.as_bytes(), JOB.as_bytes(), Vec::new(alloc))?;
     let mut sink = sink(alloc);
-    let words: [&[&str]; 9] = [
+    let words: [&[&str]; 12] = [
         &[],
         &["run"],
         &["run", "p"],
@@ -20,6 +20,9 @@ fn other_words_are_no_command(rt: HostRuntime) -> Result<(), Fail> {
         &["check", "p"],
         &["check", "p", "j"],
         &["Run", "p", "j"],
+        &["solo", "p"],
+        &["solo", "p", ""],
+        &["solos", "p", "j"],
     ];
     for words in words {
         let status = status(alloc, words, &mut shelf, &mut sink)?;
@@ -37,7 +40,7 @@ fn a_read_may_fail(rt: HostRuntime) -> Result<(), Fail> {
         let fails = vec![in alloc; fails]?;
         let mut shelf = shelf(alloc, PROGRAM.as_bytes(), JOB.as_bytes(), fails)?;
         let mut sink = sink(alloc);
-        let status = status(alloc, &WORDS, &mut shelf, &mut sink)?;
+        let status = status(alloc, &RUN, &mut shelf, &mut sink)?;
         assert_eq!(rt; status, want);
         assert_eq!(rt; sink.taken(), text.as_bytes());
     }
@@ -77,7 +80,7 @@ fn a_write_may_fail(rt: HostRuntime) -> Result<(), Fail> {
     for (program, job, fails, want, text) in CUTS {
         let mut shelf = shelf(alloc, program.as_bytes(), job.as_bytes(), Vec::new(alloc))?;
         let mut sink = MemorySink::new(alloc, 1, vec![in alloc; fails]?);
-        let status = status(alloc, &WORDS, &mut shelf, &mut sink)?;
+        let status = status(alloc, &RUN, &mut shelf, &mut sink)?;
         assert_eq!(rt; status, want);
         assert_eq!(rt; sink.taken(), text.as_bytes());
     }
@@ -118,7 +121,7 @@ fn an_output_may_be_full(rt: HostRuntime) -> Result<(), Fail> {
     let alloc = rt.alloc();
     let mut shelf = shelf(alloc, PROGRAM.as_bytes(), JOB.as_bytes(), Vec::new(alloc))?;
     let mut sink = StdSink::new(&Full);
-    let status = status(alloc, &WORDS, &mut shelf, &mut sink)?;
+    let status = status(alloc, &RUN, &mut shelf, &mut sink)?;
     assert_eq!(rt; status, 3);
     Ok(())
 }

@@ -1,4 +1,4 @@
-use Rattle.std.proofs.Common.{◌≡◌, ◌<◌, true, List, take, length, ap, ◌∙◌, refl, sym, rules, arith}
+use Rattle.std.proofs.Common.{◌≡◌, ◌<◌, true, List, take, length, ap, ◌∙◌, refl, sym, rules}
 use Rattle.px_value.specs.declared.object.Object.{Object}
 use Rattle.px_half.specs.declared.undo.Change.{Change}
 use Rattle.px_half.proofs.NewObjects.{news_next}

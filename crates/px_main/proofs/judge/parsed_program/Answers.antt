@@ -1,9 +1,8 @@
-use Rattle.std.proofs.Common.{refl, sym, ap, ◌∙◌, Ok, Err, Option, Result}
+use Rattle.std.proofs.Common.{refl, sym, ap, ◌∙◌, Ok, Err, Result}
 use Rattle.px_lex.specs.declared.tree.Program.{Program}
 use Rattle.px_parse.specs.declared.error.ParseError.{ParseError}
 use Rattle.px_types.specs.declared.error.CheckError.{CheckError}
 use Rattle.px_types.specs.declared.checked.Checked.{Checked}
-use Rattle.px_types.specs.declared.program.Known.{Known}
 use Rattle.px_main.specs.declared.judge.Fault.{Fault}
 use Rattle.px_main.specs.Answers.{ungrammatical, grammatical, typed}
 use Rattle.px_main.proofs.judge.parsed_program.Goals as goal

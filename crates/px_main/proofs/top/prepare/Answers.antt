@@ -5,7 +5,7 @@ use Rattle.px_main.proofs.Answers.{fixed}
 use Rattle.px_main.proofs.top.prepare.Goals as goal
 
 pub returns-in-Ok-clause-fixed : goal.returns-in-Ok-clause-fixed
-returns-in-Ok-clause-fixed g c = λ a f.
-    fixed (g.S.Shelf.holds c.args.shelf.now c.args.program.now) (g.S.Shelf.holds c.args.shelf.now c.args.job.now) _ _ _ a c.in_ok-program.ensures.file
-    (subst (λ (told : Option (List ℕ)). IfSome told (λ file. kept max_job file ≡ option_map (λ v. v.items) c.in_ok-job.job)) (c.in_ok-program.ensures.holds c.args.job.now) c.in_ok-job.ensures.file)
+returns-in-Ok-clause-fixed g c = λ n f.
+    fixed c.args.command.kind (g.S.Shelf.holds c.args.shelf.now c.args.command.program.now) (g.S.Shelf.holds c.args.shelf.now c.args.command.job.now) _ _ _ n c.in_ok-program.ensures.file
+    (subst (λ (told : Option (List ℕ)). IfSome told (λ file. kept max_job file ≡ option_map (λ v. v.items) c.in_ok-job.job)) (c.in_ok-program.ensures.holds c.args.command.job.now) c.in_ok-job.ensures.file)
     c.in-Ok.ensures f

@@ -1,0 +1,9 @@
+pub mod Codes
+pub mod Moves
+pub mod ExpressionMoves
+pub mod SimpleMoves
+pub mod StatementMoves
+pub mod DeclarationMoves
+pub mod Machine
+pub mod Grammar
+pub mod Place

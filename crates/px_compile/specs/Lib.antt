@@ -1,0 +1,4 @@
+pub mod Kept
+pub mod Facts
+pub mod Cutting
+pub mod Keep

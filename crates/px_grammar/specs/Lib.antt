@@ -1,0 +1,10 @@
+pub mod Lexemes
+pub mod Words
+pub mod Roles
+pub mod Trees
+pub mod Numbering
+pub mod Grammar
+pub mod Reading
+pub mod Places
+pub mod Programs
+pub mod Law

@@ -1,0 +1,20 @@
+//! The grammar of the whole language: words, trees, which words spell which tree, and where a text stops being the beginning of a program.
+#![tactic(auto)]
+
+mod error;
+pub mod law;
+mod lexeme;
+mod program;
+mod roles;
+pub mod tree;
+mod whole;
+mod word;
+
+pub use error::{ParseError, ReadError};
+pub use lexeme::{Lexeme, Word};
+pub use program::refused_line;
+pub use whole::Declared;
+pub use word::lexemes;
+
+#[cfg(test)]
+mod tests;

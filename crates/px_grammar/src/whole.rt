@@ -1,0 +1,10 @@
+//! The whole of a text.
+use crate::tree::{Class, TableDecl};
+use sqlite_items::Items;
+
+/// What a program declares.
+#[derive(Drop)]
+pub struct Declared {
+    pub tables: Items<TableDecl>,
+    pub classes: Items<Class>,
+}

@@ -1,0 +1,142 @@
+//! The answer over two files.
+ghost use Rattle.std.specs.Prelude.{◌≡◌, ◌≤◌, length, IfOk, IfSome};
+ghost use Rattle.std.specs.Option.{option_map};
+ghost use Rattle.px_lower.specs.Programs.{lowered};
+ghost use Rattle.px_lower.specs.WellFormed.{IsJudged};
+ghost use Rattle.px_job.specs.Jobs.{job_of};
+ghost use Rattle.px_job.specs.SplitJobs.{split_job_of};
+ghost use Rattle.px_main.specs.Answers.{IsAnswer, AnswersCalls, AnswersSplit, AnswersJob, refused_program, refused_job, refused_by, program_code as code_of_program, job_code as code_of_job, max_program, max_job};
+
+use crate::command::Kind;
+use crate::judge::{Fault, ProgramCode, judge};
+use crate::run::run;
+use crate::solo::solo;
+use px_job::{JobCode, JobError, JobFault, read_job, read_split_job};
+use px_lower::lower;
+use px_report::refusal_text;
+use px_types::Checked;
+use std::alloc::{AllocError, Global};
+
+/// A status, and all that is to be written with it.
+#[derive(Debug, Drop)]
+pub struct Prepared {
+    pub status: u8,
+    pub text: Vec<u8>,
+}
+
+fn program_code(code: ProgramCode) -> &'static [u8]
+    ensures { result.now ≡ code_of_program code }
+{
+    match code {
+        ProgramCode::TooLong => b"TooLong",
+        ProgramCode::Syntax => b"Syntax",
+        ProgramCode::Later => b"Later",
+    }
+}
+
+fn job_code(code: JobCode) -> &'static [u8]
+    ensures { result.now ≡ code_of_job code }
+{
+    match code {
+        JobCode::Later => b"Later",
+        JobCode::J1 => b"J1",
+        JobCode::J4 => b"J4",
+        JobCode::J5 => b"J5",
+        JobCode::J10 => b"J10",
+        JobCode::J11 => b"J11",
+        JobCode::J12 => b"J12",
+        JobCode::J13 => b"J13",
+        JobCode::J14 => b"J14",
+        JobCode::J17 => b"J17",
+        JobCode::J18 => b"J18",
+    }
+}
+
+fn program_refused(alloc: Global, fault: Fault) -> Result<Prepared, AllocError>
+    ensures { IfOk result (λ a. (a.status, a.text.items) ≡ refused_program fault) }
+{
+    let text = refusal_text(alloc, b"program", fault.line, program_code(fault.code))?;
+    Ok(Prepared { status: 5, text })
+}
+
+fn job_refused(alloc: Global, line: u32, code: &[u8]) -> Result<Prepared, AllocError>
+    ensures { IfOk result (λ a. (a.status, a.text.items) ≡ refused_job line code.now) }
+{
+    let text = refusal_text(alloc, b"job", line, code)?;
+    Ok(Prepared { status: 6, text })
+}
+
+fn refused(alloc: Global, fault: JobFault) -> Result<Prepared, AllocError>
+    ensures { IfOk result (λ a. (a.status, a.text.items) ≡ refused_by fault) }
+{
+    job_refused(alloc, fault.line, job_code(fault.code))
+}
+
+fn answer_run(alloc: Global, checked: &Checked, bytes: &[u8]) -> Result<Prepared, AllocError>
+    requires judged { IsJudged checked.now }
+    requires fits { length bytes.now ≤ max_job }
+    ensures { IfOk result (λ a. AnswersCalls checked.now (job_of checked.now.entries bytes.now) (a.status, a.text.items)) }
+{
+    match read_job(alloc, bytes, checked.entries.as_slice()) {
+        Ok(job) => {
+            let text = run(alloc, checked, job.calls.as_slice())?;
+            Ok(Prepared { status: 0, text })
+        }
+        Err(JobError::Fault(fault)) => refused(alloc, fault),
+        Err(JobError::NoMemory) => Err(AllocError),
+    }
+}
+
+fn answer_solo(alloc: Global, checked: &Checked, bytes: &[u8]) -> Result<Prepared, AllocError>
+    requires judged { IsJudged checked.now }
+    requires fits { length bytes.now ≤ max_job }
+    ensures { IfOk result (λ a. AnswersSplit checked.now (split_job_of checked.now.entries (lowered checked.now) bytes.now) (a.status, a.text.items)) }
+{
+    let code = lower(alloc, checked)?;
+    match read_split_job(alloc, bytes, checked.entries.as_slice(), &code) {
+        Ok(job) => {
+            let text = solo(alloc, checked, code, job)?;
+            Ok(Prepared { status: 0, text })
+        }
+        Err(JobError::Fault(fault)) => refused(alloc, fault),
+        Err(JobError::NoMemory) => Err(AllocError),
+    }
+}
+
+// The answer for a program that is accepted.
+fn answer_job(
+    alloc: Global,
+    kind: Kind,
+    checked: &Checked,
+    job: &Option<Vec<u8>>,
+) -> Result<Prepared, AllocError>
+    requires judged { IsJudged checked.now }
+    requires fits { IfSome job.now (λ bytes. length bytes.items ≤ max_job) }
+    ensures { IfOk result (λ a. AnswersJob kind checked.now (option_map (λ v. v.items) job.now) (a.status, a.text.items)) }
+{
+    let bytes = match job {
+        Some(bytes) => bytes.as_slice(),
+        None => return job_refused(alloc, 0, b"J2"),
+    };
+    match kind {
+        Kind::Run => answer_run(alloc, checked, bytes),
+        Kind::Solo => answer_solo(alloc, checked, bytes),
+    }
+}
+
+/// The answer over what was kept of both files.
+pub fn answer(
+    alloc: Global,
+    kind: Kind,
+    program: &Option<Vec<u8>>,
+    job: &Option<Vec<u8>>,
+) -> Result<Prepared, AllocError>
+    requires program { IfSome program.now (λ bytes. length bytes.items ≤ max_program) }
+    requires job { IfSome job.now (λ bytes. length bytes.items ≤ max_job) }
+    ensures { IfOk result (λ a. IsAnswer kind (option_map (λ v. v.items) program.now) (option_map (λ v. v.items) job.now) (a.status, a.text.items)) }
+{
+    match judge(alloc, program)? {
+        Ok(checked) => answer_job(alloc, kind, &checked, job),
+        Err(fault) => program_refused(alloc, fault),
+    }
+}

@@ -1,0 +1,27 @@
+//! The text of a history.
+ghost use Rattle.std.specs.Prelude.{◌≡◌, IfOk};
+ghost use Rattle.px_report.specs.History.{report_text};
+
+use crate::events::push_events;
+use crate::state::push_state;
+use px_code::Event;
+use px_mean::Session;
+use px_value::Text;
+use std::alloc::{AllocError, Global};
+
+/// The events, and what each session's heap holds. A class and a part have the names that stand at their numbers.
+#[tactic(auto, unfolding(crate::specs::History::report_text))]
+pub fn report_text(
+    alloc: Global,
+    classes: &[Text],
+    parts: &[Text],
+    events: &[Event],
+    sessions: &[Session],
+) -> Result<Vec<u8>, AllocError>
+    ensures { IfOk result (λ text. text.items ≡ report_text classes.now parts.now events.now sessions.now) }
+{
+    let mut text = Vec::from_slice(alloc, b"history\n")?;
+    push_events(&mut text, parts, events)?;
+    push_state(&mut text, classes, sessions)?;
+    Ok(text)
+}

@@ -1,0 +1,98 @@
+ghost use Rattle.std.specs.Prelude.{◌≡◌, length, IfOk};
+
+use super::text;
+use crate::run_text;
+use px_mean::{Made, Reply, Session};
+use px_value::{Header, Heap, Kind, Thrown, Value, Values};
+use std::alloc::{AllocError, Global};
+use std::test::Fail;
+
+// A value of each form.
+fn cells(alloc: Global) -> Result<Values, AllocError>
+    ensures { IfOk result (λ cells. length cells ≡ 7) }
+{
+    let mut cells = Values::new(alloc);
+    cells.push(Value::Int(-2147483648))?;
+    cells.push(Value::Long(9223372036854775807))?;
+    cells.push(Value::Bool(true))?;
+    cells.push(Value::Bool(false))?;
+    cells.push(Value::Text(text(alloc, b"a\n\t\"\\ z")?))?;
+    cells.push(Value::Null)?;
+    cells.push(Value::Ref(12))?;
+    Ok(cells)
+}
+
+#[test]
+fn a_run_is_printed(rt: HostRuntime) -> Result<(), Fail> {
+    let alloc = rt.alloc();
+    let void = Reply::Void;
+    let value = Reply::Value(Value::Long(-70));
+    let threw = Reply::Threw(Thrown::NullPointerException);
+    let made = vec![in alloc;
+        Made {
+            session: 2,
+            number: 1,
+            reply: void
+        },
+        Made {
+            session: 1,
+            number: 1,
+            reply: value
+        },
+        Made {
+            session: 2,
+            number: 2,
+            reply: threw
+        },
+    ]?;
+    let classes = vec![in alloc; text(alloc, b"Main")?, text(alloc, b"Node")?]?;
+    let mut heap = Heap::new(alloc);
+    let kinds = [
+        Kind::Object(0),
+        Kind::Object(1),
+        Kind::Array(1),
+        Kind::Array(5),
+        Kind::Rows(3),
+    ];
+    for kind in kinds {
+        let header = Header {
+            kind,
+            site: 0,
+            length: 0,
+        };
+        heap.add(header, Values::new(alloc))?;
+    }
+    let header = Header {
+        kind: Kind::Object(0),
+        site: 0,
+        length: 7,
+    };
+    let mut full = Heap::new(alloc);
+    full.add(header, cells(alloc)?)?;
+    let sessions = vec![in alloc;
+        Session {
+            heap: full,
+            calls: 1
+        },
+        Session { heap, calls: 2 },
+    ]?;
+    let text = run_text(alloc, &classes, &made, &sessions)?;
+    let expected = b"calls
+call 2 1 void
+call 1 1 -70
+call 2 2 threw NullPointerException
+tables
+heaps
+heap 1
+0 Main -2147483648 9223372036854775807 true false \"a\\n\\t\\\"\\\\ z\" null #12
+heap 2
+0 Main
+1 Node
+2 long[]
+3 Node[]
+4 Rows
+done
+";
+    assert_eq!(rt; text.as_slice(), expected.as_slice());
+    Ok(())
+}

@@ -1,0 +1,11 @@
+pub mod Breaches
+pub mod Types
+pub mod Operators
+pub mod Literals
+pub mod Names
+pub mod Members
+pub mod Scopes
+pub mod Expressions
+pub mod Statements
+pub mod Methods
+pub mod Programs

@@ -1,0 +1,5 @@
+pub mod Served
+pub mod Steps
+pub mod Loops
+pub mod Once
+pub mod Kept

@@ -1,0 +1,5 @@
+pub mod Serving
+pub mod Wanted
+pub mod Resting
+pub mod Once
+pub mod Kept
