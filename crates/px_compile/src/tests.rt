@@ -1,4 +1,4 @@
-ghost use Rattle.std.specs.Prelude.{◌≡◌, [], ◌∷◌, length, slice_get, pos, Some, IfOk};
+ghost use Rattle.std.specs.Prelude.{◌≡◌, [], ◌∷◌, length, slice_get, pos, None, Some, IfOk};
 ghost use Rattle.px_value.specs.declared.value.Value.TheVariants.{Long};
 ghost use Rattle.px_code.specs.Places.{fields_in};
 ghost use Rattle.px_code.specs.WellFormed.{IsWellFormed};
@@ -91,10 +91,16 @@ fn second_body(alloc: Global) -> Result<Items<Tree>, AllocError>
     Ok(body)
 }
 
-fn method(alloc: Global, node: u32, body: Items<Tree>) -> Result<Method, AllocError>
+fn method(
+    alloc: Global,
+    node: u32,
+    gives: Option<Ty>,
+    body: Items<Tree>,
+) -> Result<Method, AllocError>
     ensures slots { IfOk result (λ m. length m.slots ≡ 2) }
     ensures params { IfOk result (λ m. m.params ≡ 0) }
     ensures body { IfOk result (λ m. m.body ≡ body) }
+    ensures gives { IfOk result (λ m. m.gives ≡ gives) }
 {
     Ok(Method {
         class: 0,
@@ -102,7 +108,7 @@ fn method(alloc: Global, node: u32, body: Items<Tree>) -> Result<Method, AllocEr
         node,
         entry: true,
         params: 0,
-        gives: None,
+        gives,
         slots: Items::from_slice(alloc, &[Ty::Ref, Ty::Long])?,
         body,
     })
@@ -111,8 +117,8 @@ fn method(alloc: Global, node: u32, body: Items<Tree>) -> Result<Method, AllocEr
 fn code(alloc: Global) -> Result<Code, AllocError>
     ensures { IfOk result (λ code. IsWellFormed code) }
 {
-    let first = method(alloc, 1, first_body(alloc)?)?;
-    let second = method(alloc, 7, second_body(alloc)?)?;
+    let first = method(alloc, 1, Some(Ty::Long), first_body(alloc)?)?;
+    let second = method(alloc, 7, None, second_body(alloc)?)?;
     let mut methods = Items::new(alloc);
     methods.push(first)?;
     methods.push(second)?;

@@ -1,4 +1,4 @@
-ghost use Rattle.std.specs.Prelude.{◌≡◌, [], ◌∷◌, length, slice_get, IfOk};
+ghost use Rattle.std.specs.Prelude.{◌≡◌, [], ◌∷◌, length, slice_get, None, IfOk};
 ghost use Rattle.px_code.specs.Places.{fields_in};
 ghost use Rattle.px_code.specs.WellFormed.{IsWellFormed};
 
@@ -72,6 +72,7 @@ fn method(alloc: Global, body: Items<Tree>) -> Result<Method, AllocError>
     ensures slots { IfOk result (λ m. length m.slots ≡ 4) }
     ensures params { IfOk result (λ m. m.params ≡ 0) }
     ensures body { IfOk result (λ m. m.body ≡ body) }
+    ensures gives { IfOk result (λ m. m.gives ≡ None) }
 {
     Ok(Method {
         class: 0,
