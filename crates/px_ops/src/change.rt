@@ -12,6 +12,7 @@ fn narrow(n: i64) -> i32
     (n.rem_euclid(1 << 32) as u32).cast_signed()
 }
 
+/// An operator of one operand that is no text. It takes no memory, and never throws.
 pub fn changed(op: Op, a: &Value) -> Value
     ensures { Ok result ≡ mean_changed op a.now }
 {

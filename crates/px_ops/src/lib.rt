@@ -6,6 +6,7 @@ mod change;
 mod compare;
 mod error;
 mod fitting;
+pub mod law;
 mod numbers;
 mod operators;
 mod pair;
@@ -16,6 +17,7 @@ mod table;
 mod tests;
 mod text;
 
+pub use change::changed;
 pub use error::OpError;
 pub use fitting::fits;
 pub use operators::apply;
