@@ -2,10 +2,13 @@
 #![tactic(auto)]
 
 mod error;
+mod expressions;
 pub mod law;
 mod lexeme;
 mod program;
 mod roles;
+mod source;
+mod tokens;
 pub mod tree;
 mod whole;
 mod word;
