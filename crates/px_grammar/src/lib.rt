@@ -7,9 +7,11 @@ pub mod law;
 mod lexeme;
 mod program;
 mod roles;
+mod simple;
 mod source;
 mod tokens;
 pub mod tree;
+mod types;
 mod whole;
 mod word;
 
