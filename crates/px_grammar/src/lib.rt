@@ -3,10 +3,13 @@
 
 mod error;
 mod expressions;
+mod heads;
 pub mod law;
 mod lexeme;
+mod nodes;
 mod program;
 mod roles;
+mod signs;
 mod simple;
 mod source;
 mod tokens;
