@@ -120,6 +120,7 @@ impl Source<'_> {
     #[cycle(expression)]
     #[tactic(auto, unfolding(crate::specs::Reading::postfix))]
     pub fn postfix(&self, tokens: &mut Tokens<'_>) -> Result<Expr, ReadError>
+        ensures gives { Gives (spec.place self.now.bytes.now tokens.old.left.now) result tokens.new.left.now }
         ensures turns { (n m : ℕ) → length tokens.old.left.now ≤ n → length tokens.old.left.now < m → Gives (spec.postfix self.now.bytes.now (expression self.now.bytes.now n) m tokens.old.left.now) result tokens.new.left.now }
         ensures fewer { OnOk result (length tokens.new.left.now < length tokens.old.left.now) }
     {
