@@ -2,11 +2,19 @@
 #![tactic(auto)]
 
 mod error;
+mod expressions;
+mod heads;
 pub mod law;
 mod lexeme;
+mod nodes;
 mod program;
 mod roles;
+mod signs;
+mod simple;
+mod source;
+mod tokens;
 pub mod tree;
+mod types;
 mod whole;
 mod word;
 

@@ -1,3 +1,4 @@
+mod expressions;
 mod nesting;
 mod places;
 mod prefixes;
