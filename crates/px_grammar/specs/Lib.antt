@@ -6,5 +6,6 @@ pub mod Numbering
 pub mod Grammar
 pub mod Reading
 pub mod Places
+pub mod Unbuilt
 pub mod Programs
 pub mod Law

@@ -7,12 +7,14 @@ mod lexeme;
 mod program;
 mod roles;
 pub mod tree;
+mod unbuilt;
 mod whole;
 mod word;
 
 pub use error::{ParseError, ReadError};
 pub use lexeme::{Lexeme, Word};
-pub use program::refused_line;
+pub use program::{line_at, parse, refused_line};
+pub use unbuilt::first_unbuilt;
 pub use whole::Declared;
 pub use word::lexemes;
 
