@@ -17,7 +17,9 @@ pub enum Kind {
 #[derive(Clone, Copy)]
 pub enum Command<'a> {
     /// A program is checked.
-    Check { program: &'a str },
+    Check {
+        program: &'a str,
+    },
     /// The calls of a job are served.
     Serve {
         kind: Kind,
