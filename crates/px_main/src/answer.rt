@@ -27,7 +27,7 @@ pub struct Prepared {
 }
 
 fn program_code(alloc: Global, code: ProgramCode) -> Result<String, AllocError>
-    ensures { IfOk result (λ text. text.bytes ≡ code_of_program code) }
+    ensures { IfOk result (λ text. text.bytes.items ≡ code_of_program code) }
 {
     match code {
         ProgramCode::TooLong => format!(in alloc; "TooLong"),
