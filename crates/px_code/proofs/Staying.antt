@@ -1,19 +1,18 @@
 -- Statements stay within what points-to says.
-use Rattle.std.proofs.Common.{◌≡◌, ℕ, List, [], ◌∷◌, ◌++◌, length, Option, Some, None, Ok, Err, slice_get, unwrap_or, refl, sym, ap, ◌∙◌, subst, ⊎_elim}
+use Rattle.std.proofs.Common.{◌≡◌, ℕ, List, [], ◌∷◌, ◌++◌, length, Option, Some, None, Ok, Err, IfOk, slice_get, unwrap_or, refl, sym, ap, ◌∙◌, subst, ⊎_elim}
 use Rattle.std.specs.List.{AllByRecursion}
-use Rattle.std.specs.Prelude.{ℤ, Bool, true, false}
 use Rattle.std.proofs.lemmas.Option.{same_Some}
 use Rattle.px_value.specs.declared.value.Value.{Value}
-use Rattle.px_value.specs.declared.value.Value.TheVariants.{Int, Long, Null, Ref}
+use Rattle.px_value.specs.declared.value.Value.TheVariants.{Null, Ref}
 use Rattle.px_value.specs.declared.thrown.Thrown.TheVariants.{NullPointerException}
 use Rattle.px_value.specs.declared.object.Object.{Object}
 use Rattle.px_value.specs.declared.header.Header.{Header}
 use Rattle.px_value.specs.declared.header.Kind.{Kind}
 use Rattle.px_value.specs.declared.header.Kind.TheVariants as kind
 use Rattle.px_value.specs.declared.op.Op.{Op}
-use Rattle.px_value.specs.declared.op.Op.TheVariants as op
 use Rattle.px_value.specs.Heap.{cell_at, header_of, written}
-use Rattle.px_value.specs.Operators.{Applied, as_number, of_numbers, apply}
+use Rattle.px_value.specs.Operators.{Applied, apply}
+use Rattle.px_value.proofs.Given.{given}
 use Rattle.px_code.specs.declared.cell.Cell.{Cell}
 use Rattle.px_code.specs.declared.cell.Part.TheVariants.{Field as FieldPart}
 use Rattle.px_code.specs.declared.word.Operand.{Operand}
@@ -48,28 +47,11 @@ all_append P (x ∷ xs) ys all more = (all.0, all_append P xs ys all.1 more)
 -- ---- what is no reference
 
 abbrev pub GivesNoReference : Applied → Type 0
-GivesNoReference (Ok v) = IsNoReference v
-GivesNoReference (Err t) = Unit {0}
-
-number_plain : (long : Bool) (n : ℤ) → IsNoReference (as_number long n)
-number_plain true n = tt
-number_plain false n = tt
-
-numbers_plain : (o : Op) (long : Bool) (a b : ℤ) → GivesNoReference (of_numbers o long a b)
-numbers_plain op.Add long a b = number_plain long _
-numbers_plain op.Sub long a b = number_plain long _
-numbers_plain op.Mul long a b = number_plain long _
-numbers_plain op.Neg long a b = number_plain long _
-numbers_plain op.Widen long a b = tt
+GivesNoReference applied = IfOk applied IsNoReference
 
 -- no operator gives a reference
 pub apply_plain : (o : Op) (a b : Value) → GivesNoReference (apply o a b)
-unfolding apply
-apply_plain o (Int a) (Int b) = numbers_plain o false a b
-apply_plain o (Int a) (Long b) = numbers_plain o true a b
-apply_plain o (Long a) (Int b) = numbers_plain o true a b
-apply_plain o (Long a) (Long b) = numbers_plain o true a b
-apply_plain o a b = tt
+apply_plain o a b = given IsNoReference (λ n. tt) (λ n. tt) (λ t. tt) tt o a b (λ h. tt)
 
 pub no_reference : (v : Value) (target : ℕ) → IsNoReference v → v ≡ Ref target → ⊥
 no_reference v target plain h = subst IsNoReference h plain

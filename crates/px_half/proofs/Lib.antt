@@ -4,5 +4,6 @@ pub mod Telling
 pub mod NewObjects
 pub mod CarryOrder
 pub mod CarryWhole
+pub mod Texts
 pub mod Tellable
 pub mod TellableEnds

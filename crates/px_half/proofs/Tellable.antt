@@ -1,13 +1,13 @@
 -- What can be told stays so.
-use Rattle.std.proofs.Common.{◌≡◌, ℕ, ℤ, zero, suc, ◌-◌, ◌≤◌, min, Bool, true, false, List, [], ◌∷◌, take, length, Option, Some, None, unwrap_or, Ok, Err, slice_get, slice_set, refl, ap, subst, arith}
+use Rattle.std.proofs.Common.{◌≡◌, ℕ, ℤ, zero, suc, ◌-◌, ◌≤◌, min, Bool, true, false, List, [], ◌∷◌, take, length, Option, Some, None, unwrap_or, Ok, Err, IfOk, slice_get, slice_set, refl, ap, subst, arith}
 use Rattle.std.specs.List.{AllByRecursion}
 use Rattle.px_value.specs.declared.value.Value.{Value}
 use Rattle.px_value.specs.declared.value.Value.TheVariants as v
 use Rattle.px_value.specs.declared.object.Object.{Object}
 use Rattle.px_value.specs.declared.op.Op.{Op}
-use Rattle.px_value.specs.declared.op.Op.TheVariants as op
 use Rattle.px_value.specs.Heap.{cell_at, written, with_cell}
-use Rattle.px_value.specs.Operators.{Applied, apply, of_numbers, as_number}
+use Rattle.px_value.specs.Operators.{Applied, apply}
+use Rattle.px_value.proofs.Given.{given as op_given}
 use Rattle.px_code.specs.declared.word.Operand.{Operand}
 use Rattle.px_code.specs.declared.word.Operand.TheVariants.{Slot as InFrame, Literal}
 use Rattle.px_code.specs.declared.word.Word.{Word}
@@ -20,7 +20,8 @@ use Rattle.px_code.specs.CodeRun.{given}
 use Rattle.px_code.specs.Machine.{Machine, slots_at, value_in, top, top_values, just_written, with_slot_in, filled, filled_if, answered, with_value, after_act, Stop, RunsOn, Returned, Threw, Stepped, step, step_ends, steps, then_steps}
 use Rattle.px_wire.specs.Fitting.{HasShortText}
 use Rattle.px_half.specs.Messages.{IsTellableFrame, IsTellableHeap, IsTellable}
-use Rattle.px_half.specs.Law.{IsShortOperand, IsShortWord, StepsStayTellable}
+use Rattle.px_half.specs.Law.{IsShortOperand, IsShortOption, IsShortWord, StepsStayTellable}
+use Rattle.px_half.proofs.Texts.{joined_short}
 use Rattle.px_half.proofs.Telling.{AllShort, cell_short}
 
 -- ---- lists
@@ -55,39 +56,11 @@ take_length (suc n) (x ∷ xs) h = ap suc (take_length n xs (omega (arith, h)))
 abbrev AreShortSlots : List Slot → Type 0
 AreShortSlots slots = AllByRecursion (λ (s : Slot). HasShortText s.value) slots
 
-number_short : (long : Bool) (n : ℤ) → HasShortText (as_number long n)
-number_short true n = tt
-number_short false n = tt
-
 abbrev Short : Applied → Type 0
-Short (Ok x) = HasShortText x
-Short (Err t) = Unit {0}
+Short applied = IfOk applied HasShortText
 
-numbers_short : (o : Op) (long : Bool) (a b : ℤ) → Short (of_numbers o long a b)
-numbers_short op.Add long a b = number_short long _
-numbers_short op.Sub long a b = number_short long _
-numbers_short op.Mul long a b = number_short long _
-numbers_short op.Neg long a b = number_short long _
-numbers_short op.Widen long a b = tt
-
-apply_short : (o : Op) (a b : Value) → Short (apply o a b)
-unfolding apply
-apply_short o (v.Int a) (v.Int b) = numbers_short o false a b
-apply_short o (v.Int a) (v.Long b) = numbers_short o true a b
-apply_short o (v.Long a) (v.Int b) = numbers_short o true a b
-apply_short o (v.Long a) (v.Long b) = numbers_short o true a b
-apply_short o (v.Int a) (v.Bool b) = tt
-apply_short o (v.Int a) (v.Text b) = tt
-apply_short o (v.Int a) v.Null = tt
-apply_short o (v.Int a) (v.Ref b) = tt
-apply_short o (v.Long a) (v.Bool b) = tt
-apply_short o (v.Long a) (v.Text b) = tt
-apply_short o (v.Long a) v.Null = tt
-apply_short o (v.Long a) (v.Ref b) = tt
-apply_short o (v.Bool a) b = tt
-apply_short o (v.Text a) b = tt
-apply_short o v.Null b = tt
-apply_short o (v.Ref a) b = tt
+apply_short : (o : Op) (a b : Value) → HasShortText a → HasShortText b → Short (apply o a b)
+apply_short o a b h k = op_given HasShortText (λ n. tt) (λ n. tt) (λ t. tt) tt o a b (joined_short a b h k)
 
 slot_short : (slots : List Slot) (n : ℕ) → AreShortSlots slots → HasShortText (value_in slots n)
 slot_short [] n h = tt
@@ -105,6 +78,10 @@ SlotsShort slots = (n : ℕ) → HasShortText (slots n)
 operand_short : (slots : Slots) (a : Operand) → SlotsShort slots → IsShortOperand a → HasShortText (operand slots a)
 operand_short slots (InFrame n) h k = h n
 operand_short slots (Literal x) h k = k
+
+or_short : (slots : Slots) (x : Value) (b : Option Operand) → SlotsShort slots → HasShortText x → IsShortOption b → HasShortText (operand_or slots x b)
+or_short slots x None h k s = k
+or_short slots x (Some a) h k s = operand_short slots a h s
 
 found_short : (heap : List Object) (o i : ℕ) → AllShort heap → HasShortText (value_at heap o i)
 found_short heap o i h = of_cell (cell_at heap o i) refl
@@ -146,7 +123,9 @@ put_short heap field (v.Ref o) y h k = record { ends = tt; heap = written_short 
 
 act_short : (word : Word) (slots : Slots) (heap : List Object) → IsShortWord word → SlotsShort slots → AllShort heap → ActIsShort (acted (act_of word slots) heap)
 act_short (w.Set to a) slots heap s h k = record { ends = operand_short slots a h s; heap = k }
-act_short (w.Op o to a b) slots heap s h k = record { ends = apply_short o (operand slots a) (operand_or slots (operand slots a) b); heap = k }
+act_short (w.Op o to a b) slots heap s h k =
+    let left = operand_short slots a h s.0 in
+    record { ends = apply_short o (operand slots a) (operand_or slots (operand slots a) b) left (or_short slots (operand slots a) b h left s.1); heap = k }
 act_short (w.Get to of class field) slots heap s h k = get_short heap field (operand slots of) k
 act_short (w.Put of class field a) slots heap s h k = put_short heap field (operand slots of) (operand slots a) k (operand_short slots a h s.1)
 act_short (w.Return None) slots heap s h k = record { ends = tt; heap = k }

@@ -5,3 +5,4 @@ pub mod Messages
 pub mod Absorbed
 pub mod Carry
 pub mod Law
+pub mod Stops

@@ -1,6 +1,6 @@
 //! Statements that run on the heap and the stack of one end.
 ghost use Rattle.std.specs.Prelude.{◌≡◌, Ok, OnOk, IfOk};
-ghost use Rattle.px_code.specs.Act.{acted, value_at, slot_of as code_slot_of, operand as operand_of};
+ghost use Rattle.px_code.specs.Act.{Comes, acted, value_at, slot_of as code_slot_of, operand as operand_of};
 ghost use Rattle.px_code.specs.Machine.{top_values, after_act, with_value, stop_of, returned, sent, step, steps};
 ghost use Rattle.px_half.specs.Machine.{machine_of, closed_of, marked_write, got, put_at, applied, acts, Unless, ComesTo, ending_of, StopsAs};
 
@@ -124,15 +124,15 @@ impl Machine {
         op: Op,
         left: &Operand,
         right: &Option<Operand>,
-    ) -> Result<Value, AllocError>
-        ensures { IfOk result (λ v. applied op left.now right.now (top_values self.now.frames.items) ≡ Ok v) }
+    ) -> Result<Value, Stop>
+        ensures { ComesTo result (acted (Comes (applied op left.now right.now (top_values self.now.frames.items))) self.now.heap) }
     {
         let left = self.operand(alloc, left)?;
         match right {
-            None => Ok(apply(op, &left, &left)),
+            None => Ok(apply(alloc, op, &left, &left)?),
             Some(right) => {
                 let right = self.operand(alloc, right)?;
-                Ok(apply(op, &left, &right))
+                Ok(apply(alloc, op, &left, &right)?)
             }
         }
     }
@@ -150,7 +150,7 @@ impl Machine {
                 to: _,
                 left,
                 right,
-            } => Ok(self.operate(alloc, *op, left, right)?),
+            } => self.operate(alloc, *op, left, right),
             Word::Get {
                 to: _,
                 of,

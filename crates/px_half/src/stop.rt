@@ -1,7 +1,9 @@
 //! What ends a block before its last statement.
 ghost use Rattle.std.specs.Prelude.{◌≡◌};
 ghost use Rattle.px_half.specs.declared.stop.Stop.TheVariants.{NoMemory};
+ghost use Rattle.px_half.specs.Stops.{stop_of};
 
+use px_ops::OpError;
 use px_value::Thrown;
 use std::alloc::{AllocError, AllocFailed};
 
@@ -24,5 +26,16 @@ impl<T: Drop> From<AllocFailed<T>> for Stop {
 
     fn from(_: AllocFailed<T>) -> Self {
         Stop::NoMemory
+    }
+}
+
+impl From<OpError> for Stop {
+    ghost from_gives = { λ error stop. stop ≡ stop_of error };
+
+    fn from(error: OpError) -> Self {
+        match error {
+            OpError::Thrown(thrown) => Stop::Threw(thrown),
+            OpError::NoMemory => Stop::NoMemory,
+        }
     }
 }

@@ -6,7 +6,7 @@ ghost use Rattle.px_mean.specs.Exec.{literal as mean_literal};
 ghost use Rattle.px_lower.specs.Expressions.{negated};
 
 use px_lex::tree::Sign;
-use px_ops::apply;
+use px_ops::changed;
 use px_value::{Op, Value};
 
 /// The operator of a sign between two operands.
@@ -31,10 +31,11 @@ pub fn prefix_of(sign: Sign) -> Option<Op>
 }
 
 /// The value of a literal behind a minus.
+#[tactic(auto, unfolding(px_value::specs::Operators::apply))]
 pub fn negative(value: &Value) -> Value
     ensures { result ≡ negated value.now }
 {
-    apply(Op::Neg, value, value)
+    changed(Op::Neg, value)
 }
 
 // The value of the digits, in its low 64 bits.

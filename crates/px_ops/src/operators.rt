@@ -1,43 +1,35 @@
 //! What an operator gives.
-ghost use Rattle.std.specs.Prelude.{◌≡◌, true, false, Ok};
-ghost use Rattle.px_value.specs.Operators.{of_numbers, apply as mean_apply};
+ghost use Rattle.std.specs.Prelude.{◌≡◌, IsErrOf};
+ghost use Rattle.px_value.specs.Operators.{apply as mean_apply};
+ghost use Rattle.px_ops.specs.Applying.{ComesTo};
 
+use crate::bits::bitwise;
+use crate::change::changed;
+use crate::compare::compared;
+use crate::error::OpError;
+use crate::numbers::arithmetic;
+use crate::pair::promoted;
+use crate::same::equality;
+use crate::shift::shifted;
+use crate::text::{equals, joined, length_of};
 use px_value::{Op, Value};
+use std::alloc::Global;
 
-fn on_ints(op: Op, a: i32, b: i32) -> Value
-    ensures { of_numbers op false a b ≡ Ok result }
-{
-    match op {
-        Op::Add => Value::Int(a.wrapping_add(b)),
-        Op::Sub => Value::Int(a.wrapping_sub(b)),
-        Op::Mul => Value::Int(a.wrapping_mul(b)),
-        Op::Neg => Value::Int(a.wrapping_neg()),
-        Op::Widen => Value::Long(i64::from(a)),
-    }
-}
-
-fn on_longs(op: Op, a: i64, b: i64) -> Value
-    ensures { of_numbers op true a b ≡ Ok result }
-{
-    match op {
-        Op::Add => Value::Long(a.wrapping_add(b)),
-        Op::Sub => Value::Long(a.wrapping_sub(b)),
-        Op::Mul => Value::Long(a.wrapping_mul(b)),
-        Op::Neg => Value::Long(a.wrapping_neg()),
-        Op::Widen => Value::Long(a),
-    }
-}
-
-/// An operator on two values; a unary one has its operand twice.
+/// An operator on two values; a unary one has its operand twice. Values that no typed program gives an operator come to null.
 #[tactic(auto, unfolding(px_value::specs::Operators::apply))]
-pub fn apply(op: Op, a: &Value, b: &Value) -> Value
-    ensures { mean_apply op a.now b.now ≡ Ok result }
+pub fn apply(alloc: Global, op: Op, a: &Value, b: &Value) -> Result<Value, OpError>
+    ensures comes { ComesTo result (mean_apply op a.now b.now) }
+    ensures memory { IsErrOf result OpError.NoMemory → op ≡ Op.Concat }
 {
-    match (a, b) {
-        (Value::Int(a), Value::Int(b)) => on_ints(op, *a, *b),
-        (Value::Int(a), Value::Long(b)) => on_longs(op, i64::from(*a), *b),
-        (Value::Long(a), Value::Int(b)) => on_longs(op, *a, i64::from(*b)),
-        (Value::Long(a), Value::Long(b)) => on_longs(op, *a, *b),
-        (_, _) => Value::Null,
+    match op {
+        Op::Add | Op::Sub | Op::Mul | Op::Div | Op::Rem => Ok(arithmetic(op, promoted(a, b))?),
+        Op::And | Op::Or | Op::Xor => Ok(bitwise(op, promoted(a, b))),
+        Op::Shl | Op::Shr | Op::Ushr => Ok(shifted(op, a, b)),
+        Op::Lt | Op::Le | Op::Gt | Op::Ge => Ok(compared(op, promoted(a, b))),
+        Op::Eq | Op::Ne => Ok(equality(op, a, b)),
+        Op::Neg | Op::Inv | Op::Not | Op::Widen | Op::Narrow => Ok(changed(op, a)),
+        Op::Concat => joined(alloc, a, b),
+        Op::Equals => Ok(equals(a, b)?),
+        Op::Length => Ok(length_of(a)?),
     }
 }

@@ -3,11 +3,12 @@ use Rattle.std.proofs.Common.{◌≡◌, ℕ, List, take, Result, Ok, Err, refl,
 use Rattle.std.specs.Result.{IsErrAnd}
 use Rattle.px_value.specs.declared.value.Value.{Value}
 use Rattle.px_value.specs.Outcome.{Outcome, Gives, Throws, Run, then_run, Flow}
-use Rattle.px_mean.specs.Exec.{leaves, with_slots}
+use Rattle.px_value.specs.Operators.{Applied}
+use Rattle.px_mean.specs.Exec.{leaves, with_slots, came_to}
 use Rattle.px_plain.specs.declared.machine.Stop.{Stop}
 use Rattle.px_plain.specs.declared.machine.Stop.TheVariants as stop
 use Rattle.px_plain.specs.declared.machine.Next.{Next}
-use Rattle.px_plain.specs.View.{Here, Ending, Stops, Ends, EndsFlow}
+use Rattle.px_plain.specs.View.{Here, Ending, Stops, Ends, EndsFlow, Came}
 
 abbrev pub Then : Type 0 → Type 0 → Type 0
 Then A B = A → Run ⊥ Here B
@@ -37,6 +38,12 @@ hands_on A B s s' v o f o' r k h e = subst (λ (x : Ending B). Ends s' r x) (sym
 -- the answer of the whole is that of its part
 pub same_end : (A : Type 0) (s : Here) (r : Result A Stop) (o o' : Ending A) → o' ≡ o → Ends s r o → Ends s r o'
 same_end A s r o o' e h = subst (λ (x : Ending A). Ends s r x) (sym e) h
+
+-- an operator's value or throw
+pub ends_came : (s : Here) (r : Result Value Stop) (a : Applied) → Came r a → Ends s r (came_to a s)
+ends_came s (Ok v) a h = ap (λ (x : Applied). came_to x s) h
+ends_came s (Err (stop.Threw t)) a h = ap (λ (x : Applied). came_to x s) h
+ends_came s (Err stop.NoMemory) a h = tt
 
 -- ---- statements
 

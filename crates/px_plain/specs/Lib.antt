@@ -1,3 +1,4 @@
 pub mod Undo
 pub mod View
 pub mod Serial
+pub mod Stops

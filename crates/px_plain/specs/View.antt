@@ -7,6 +7,7 @@ use Rattle.px_lex.specs.declared.tree.Expr.{Expr}
 use Rattle.px_lex.specs.declared.tree.Stmt.{Stmt}
 use Rattle.px_types.specs.declared.checked.Fact.{Fact}
 use Rattle.px_value.specs.Outcome.{Outcome, Gives, Throws, Flow, Goes, Returns}
+use Rattle.px_value.specs.Operators.{Applied}
 use Rattle.px_mean.specs.Facts.{facts_in}
 use Rattle.px_mean.specs.Exec.{Frame, Meant, meant, done_by}
 use Rattle.px_mean.specs.Serial.{Called}
@@ -36,6 +37,12 @@ Stops s stop.NoMemory o = Unit {0}
 abbrev pub Ends : {A : Type 0} → Here → Result A Stop → Ending A → Type 0
 Ends s (Ok v) o = o ≡ Gives v s
 Ends s (Err e) o = Stops s e o
+
+-- the value or the throw that an operator comes to
+abbrev pub Came : Result Value Stop → Applied → Type 0
+Came (Ok v) a = a ≡ Ok v
+Came (Err (stop.Threw t)) a = a ≡ Err t
+Came (Err stop.NoMemory) a = Unit {0}
 
 abbrev pub flow_of : Next → Flow Value
 flow_of next.Goes = Goes

@@ -8,12 +8,13 @@ ghost use Rattle.px_mean.specs.Exec.{name_value, put_name, member_value, put_mem
 ghost use Rattle.px_mean.specs.Effects.{get_field, put_field};
 ghost use Rattle.px_plain.specs.Undo.{undone};
 ghost use Rattle.px_plain.specs.View.{frame_of, says, does, Ends, EndsFlow, Keeps, IfKept};
+ghost use Rattle.px_plain.specs.Stops.{stop_of};
 ghost use Rattle.px_plain.specs.declared.machine.Stop.TheVariants.{NoMemory};
 
-use crate::operators::{literal, op_of, prefixed, widened};
+use crate::operators::{applied, literal, op_of, prefixed, widened};
 use crate::undo::{Change, take_back, write};
 use px_lex::tree::{Base, Expr, ExprForm, Stmt, StmtForm, TypeName};
-use px_ops::apply;
+use px_ops::OpError;
 use px_types::{Fact, Named};
 use px_value::{Heap, Thrown, Ty, Value};
 use sqlite_items::at;
@@ -39,6 +40,17 @@ impl<T: Drop> From<AllocFailed<T>> for Stop {
 
     fn from(_: AllocFailed<T>) -> Self {
         Stop::NoMemory
+    }
+}
+
+impl From<OpError> for Stop {
+    ghost from_gives = { λ error stop. stop ≡ stop_of error };
+
+    fn from(error: OpError) -> Self {
+        match error {
+            OpError::Thrown(thrown) => Stop::Threw(thrown),
+            OpError::NoMemory => Stop::NoMemory,
+        }
     }
 }
 
@@ -167,7 +179,7 @@ impl Machine {
             } => {
                 let a = self.eval(alloc, facts, left.get())?;
                 let b = self.eval(alloc, facts, right.get())?;
-                Ok(apply(op_of(*sign), &a, &b))
+                applied(alloc, op_of(*sign), &a, &b)
             }
         }
     }

@@ -1,12 +1,16 @@
 //! The operators and literals of the syntax tree.
 ghost use Rattle.std.specs.Prelude.{◌≡◌, ◌%◌, ◌^◌, Ok};
 ghost use Rattle.px_mean.specs.Exec.{literal as mean_literal, widened as mean_widened, prefixed as mean_prefixed};
+ghost use Rattle.px_value.specs.Operators.{apply as mean_apply};
+ghost use Rattle.px_plain.specs.View.{Came};
 ghost use Rattle.px_types.specs.Literals.{decimal_value};
 ghost use Rattle.px_mean.specs.Facts.{op_of as mean_op_of, prefix_of};
 
+use crate::machine::Stop;
 use px_lex::tree::Sign;
-use px_ops::{Op, Ty, apply};
+use px_ops::{Op, Ty, apply, changed};
 use px_value::Value;
+use std::alloc::Global;
 
 pub fn op_of(sign: Sign) -> Op
     ensures { result ≡ mean_op_of sign }
@@ -18,22 +22,31 @@ pub fn op_of(sign: Sign) -> Op
     }
 }
 
+/// What an operator comes to.
+pub fn applied(alloc: Global, op: Op, a: &Value, b: &Value) -> Result<Value, Stop>
+    ensures { Came result (mean_apply op a.now b.now) }
+{
+    Ok(apply(alloc, op, a, b)?)
+}
+
 /// A value behind a prefix.
+#[tactic(auto, unfolding(px_value::specs::Operators::apply))]
 pub fn prefixed(sign: Sign, value: Value) -> Value
     ensures { mean_prefixed (prefix_of sign) value ≡ Ok result }
 {
     match sign {
-        Sign::Minus => apply(Op::Neg, &value, &value),
+        Sign::Minus => changed(Op::Neg, &value),
         _ => value,
     }
 }
 
 /// A value where another type is wanted: an int becomes a long.
+#[tactic(auto, unfolding(px_value::specs::Operators::apply))]
 pub fn widened(from: Ty, to: Ty, value: Value) -> Value
     ensures { mean_widened from to value ≡ Ok result }
 {
     match (from, to) {
-        (Ty::Int, Ty::Long) => apply(Op::Widen, &value, &value),
+        (Ty::Int, Ty::Long) => changed(Op::Widen, &value),
         (_, _) => value,
     }
 }

@@ -5,7 +5,7 @@ use Rattle.std.specs.Fmt.{signed_decimal}
 use Rattle.px_value.specs.declared.value.Value.{Value}
 use Rattle.px_value.specs.declared.value.Value.TheVariants.{Int, Long, Bool as Truth, Text, Null, Ref}
 use Rattle.px_value.specs.declared.thrown.Thrown.{Thrown}
-use Rattle.px_value.specs.declared.thrown.Thrown.TheVariants.{NullPointerException}
+use Rattle.px_value.specs.declared.thrown.Thrown.TheVariants as thrown
 use Rattle.px_value.specs.declared.header.Kind.{Kind}
 use Rattle.px_value.specs.declared.header.Kind.TheVariants.{Object, Array, Rows}
 use Rattle.px_code.specs.declared.reply.Reply.{Reply}
@@ -37,7 +37,17 @@ value_text (Ref place) = codes "#" ++ decimal place
 -- ---- replies
 
 abbrev pub thrown_name : Thrown → List ℕ
-thrown_name NullPointerException = codes "NullPointerException"
+thrown_name thrown.ArithmeticException = codes "ArithmeticException"
+thrown_name thrown.NullPointerException = codes "NullPointerException"
+thrown_name thrown.ArrayIndexOutOfBoundsException = codes "ArrayIndexOutOfBoundsException"
+thrown_name thrown.NegativeArraySizeException = codes "NegativeArraySizeException"
+thrown_name thrown.SQLException = codes "SQLException"
+thrown_name thrown.TurnsOut = codes "TurnsOut"
+thrown_name thrown.StackOverflowError = codes "StackOverflowError"
+thrown_name thrown.OpsOut = codes "OpsOut"
+thrown_name thrown.PrintsOut = codes "PrintsOut"
+thrown_name thrown.HeapFull = codes "HeapFull"
+thrown_name thrown.TextTooLong = codes "TextTooLong"
 
 abbrev pub reply_text : Reply → List ℕ
 reply_text reply.Void = codes "void"

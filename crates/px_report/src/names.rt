@@ -9,7 +9,17 @@ pub fn thrown_name(thrown: Thrown) -> &'static [u8]
     ensures { result.now ≡ thrown_name thrown }
 {
     match thrown {
+        Thrown::ArithmeticException => b"ArithmeticException",
         Thrown::NullPointerException => b"NullPointerException",
+        Thrown::ArrayIndexOutOfBoundsException => b"ArrayIndexOutOfBoundsException",
+        Thrown::NegativeArraySizeException => b"NegativeArraySizeException",
+        Thrown::SQLException => b"SQLException",
+        Thrown::TurnsOut => b"TurnsOut",
+        Thrown::StackOverflowError => b"StackOverflowError",
+        Thrown::OpsOut => b"OpsOut",
+        Thrown::PrintsOut => b"PrintsOut",
+        Thrown::HeapFull => b"HeapFull",
+        Thrown::TextTooLong => b"TextTooLong",
     }
 }
 

@@ -5,8 +5,8 @@ use Rattle.px_types.specs.declared.checked.Named.{Named}
 use Rattle.px_value.specs.Outcome.{Gives}
 use Rattle.px_value.specs.Operators.{Applied, apply}
 use Rattle.px_mean.specs.Exec.{literal, came_to, name_value, member_value}
-use Rattle.px_plain.specs.View.{frame_of, Ends, Ending, says}
-use Rattle.px_plain.proofs.Steps.{exits, gives_then, ends_with, hands_on, same_end}
+use Rattle.px_plain.specs.View.{frame_of, Ends, Ending, says, Came}
+use Rattle.px_plain.proofs.Steps.{exits, gives_then, ends_with, hands_on, same_end, ends_came}
 use Rattle.px_plain.proofs.Runs.{run_number, run_this, run_name, run_group, run_field, run_prefix, run_binary}
 use Rattle.px_plain.proofs.machine.Machine.+eval.Goals as goal
 
@@ -55,5 +55,5 @@ returns-in_err-b-in-Binary t c =
 
 pub returns-in_ok-b-in-Binary : goal.returns-in_ok-b-in-Binary
 returns-in_ok-b-in-Binary t c =
-    ends_with _ _ _ _ _ _ _ _ (run_binary c.args.facts.now c.args.e.now _ _ _ _ _ _ _ c.in-Binary.is c.get-in-Binary.ensures c.get-in-Binary-2.ensures ∙ gives_then _ _ _ _ _ _ c.in_ok-a-in-Binary.ensures) c.in_ok-b-in-Binary.ensures
-    (ap (λ (a : Applied). came_to a (frame_of c.args.self.now)) (ap (λ (o : Op). apply o c.in_ok-a-in-Binary.a c.in_ok-b-in-Binary.b) (sym c.op_of.ensures) ∙ c.apply.ensures))
+    hands_on _ _ _ _ _ _ _ _ _ (run_binary c.args.facts.now c.args.e.now _ _ _ _ _ _ _ c.in-Binary.is c.get-in-Binary.ensures c.get-in-Binary-2.ensures ∙ gives_then _ _ _ _ _ _ c.in_ok-a-in-Binary.ensures) c.in_ok-b-in-Binary.ensures
+    (ends_came (frame_of c.args.self.now) _ _ (subst (λ (o : Op). Came c.applied.result (apply o c.in_ok-a-in-Binary.a c.in_ok-b-in-Binary.b)) c.op_of.ensures c.applied.ensures))
