@@ -24,3 +24,5 @@ pub mod TreeStatements
 pub mod TreePrograms
 pub mod TreeOf
 pub mod Lexing
+pub mod Sizes
+pub mod Numbers

@@ -4,6 +4,7 @@
 mod error;
 pub mod law;
 mod lexeme;
+mod numbering;
 mod program;
 mod roles;
 pub mod tree;
