@@ -2,12 +2,17 @@
 #![tactic(auto)]
 
 mod error;
+mod expressions;
 pub mod law;
 mod lexeme;
 mod numbering;
 mod program;
 mod roles;
+mod simple;
+mod source;
+mod tokens;
 pub mod tree;
+mod types;
 mod whole;
 mod word;
 
