@@ -26,3 +26,4 @@ pub mod TreeOf
 pub mod Lexing
 pub mod Sizes
 pub mod Numbers
+pub mod Repeats

@@ -6,7 +6,7 @@ use Rattle.px_grammar.specs.declared.lexeme.Word.TheVariants as w
 use Rattle.px_grammar.specs.declared.tree.Stmt.{Stmt}
 use Rattle.px_grammar.specs.declared.error.ReadError.{ReadError}
 use Rattle.px_grammar.specs.declared.error.ReadError.TheVariants.{Unreadable, NoMemory}
-use Rattle.px_grammar.specs.Reading.{State, Read, Reads, and_then, ◌>>=◌, by_test, next_word, Gives, Fails, repeated, statement, statement_on, is_print, print, ended_by_semicolon, simple}
+use Rattle.px_grammar.specs.Reading.{State, Read, Reads, and_then, ◌>>=◌, by_test, next_word, Gives, Fails, repeated, statement, statement_on, braced, empty, conditional, while_loop, for_loop, returned, is_print, print, ended_by_semicolon, simple}
 
 pub repeated_ends : {A : Type 0} (goes_on : State → Bool) (one : Reads A) (m : ℕ) (found : List A) (s : State) → goes_on s ≡ false → repeated goes_on one m found s ≡ Some (found, s)
 unfolding repeated
@@ -46,6 +46,30 @@ unfolding statement
 statement_turn source one zero s result now x h e i g = absurd (omega arith)
 statement_turn source one (suc n) s result now x h e i g =
     gives_as _ _ result now (ap (λ (y : Word). statement_on source (statement source n) y s) e ∙ ap (λ (p : Reads Stmt). p s) (i (statement source n))) (g n (omega arith))
+
+pub braced_word : (source : List ℕ) (inner : Reads Stmt) → statement_on source inner w.OpenBrace ≡ braced source inner
+unfolding statement_on
+braced_word source inner = refl
+
+pub empty_word : (source : List ℕ) (inner : Reads Stmt) → statement_on source inner w.Semicolon ≡ empty
+unfolding statement_on
+empty_word source inner = refl
+
+pub conditional_word : (source : List ℕ) (inner : Reads Stmt) → statement_on source inner w.If ≡ conditional source inner
+unfolding statement_on
+conditional_word source inner = refl
+
+pub while_loop_word : (source : List ℕ) (inner : Reads Stmt) → statement_on source inner w.While ≡ while_loop source inner
+unfolding statement_on
+while_loop_word source inner = refl
+
+pub for_loop_word : (source : List ℕ) (inner : Reads Stmt) → statement_on source inner w.For ≡ for_loop source inner
+unfolding statement_on
+for_loop_word source inner = refl
+
+pub returned_word : (source : List ℕ) (inner : Reads Stmt) → statement_on source inner w.Return ≡ returned source
+unfolding statement_on
+returned_word source inner = refl
 
 pub other_statement : (source : List ℕ) (inner : Reads Stmt) (x : Word) → (x ≡ w.OpenBrace → ⊥) → (x ≡ w.Semicolon → ⊥) → (x ≡ w.If → ⊥) → (x ≡ w.While → ⊥) → (x ≡ w.For → ⊥) → (x ≡ w.Return → ⊥) → statement_on source inner x ≡ by_test is_print (print source) (ended_by_semicolon (simple source))
 unfolding statement_on

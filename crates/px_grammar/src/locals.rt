@@ -1,4 +1,4 @@
-//! Types and declarations of locals.
+//! Declarations of locals.
 ghost use Rattle.std.specs.Prelude.{◌≡◌, ◌<◌, length, OnOk, IfOk};
 ghost use Rattle.px_grammar.specs.Reading as spec;
 ghost use Rattle.px_grammar.specs.Reading.{Gives};
@@ -34,21 +34,6 @@ impl Tokens<'_> {
 }
 
 impl Source<'_> {
-    #[tactic(auto, unfolding(crate::specs::Reading::type_name, crate::specs::Reading::array_type))]
-    pub fn type_name(&self, tokens: &mut Tokens<'_>) -> Result<TypeName, ReadError>
-        ensures gives { Gives (spec.type_name self.now.bytes.now tokens.old.left.now) result tokens.new.left.now }
-        ensures fewer { OnOk result (length tokens.new.left.now < length tokens.old.left.now) }
-    {
-        let x = tokens.take()?;
-        if tokens.sees(Word::OpenBracket) {
-            tokens.take()?;
-            tokens.expect(Word::CloseBracket)?;
-            Ok(self.array_type(x)?)
-        } else {
-            Ok(self.single_type(x)?)
-        }
-    }
-
     fn local_of(&self, ty: TypeName, name: Lexeme, value: Expr) -> Result<Stmt, AllocError>
         ensures { IfOk result (λ s. s ≡ tree.local_of self.now.bytes.now ty name value) }
     {

@@ -1,5 +1,5 @@
 //! Members of a class.
-ghost use Rattle.std.specs.Prelude.{◌≡◌, ◌<◌, ◌≤◌, [], length, IfOk, OnOk};
+ghost use Rattle.std.specs.Prelude.{◌≡◌, ◌<◌, ◌≤◌, [], ◌∷◌, length, IfOk, OnOk};
 ghost use Rattle.px_grammar.specs.Reading as spec;
 ghost use Rattle.px_grammar.specs.Reading.{Gives};
 ghost use Rattle.px_grammar.specs.Trees as tree;
@@ -86,14 +86,13 @@ impl Source<'_> {
         self.param(tokens)
     }
 
-    // One or more, with commas between.
-    #[tactic(auto, unfolding(crate::specs::Reading::some_params))]
-    fn some_params(&self, tokens: &mut Tokens<'_>) -> Result<Items<Param>, ReadError>
-        ensures gives { Gives (spec.some_params self.now.bytes.now tokens.old.left.now) result tokens.new.left.now }
-        ensures fewer { OnOk result (length tokens.new.left.now < length tokens.old.left.now) }
+    // The parameters behind the first, with it.
+    fn more_params(&self, tokens: &mut Tokens<'_>, first: Param) -> Result<Items<Param>, ReadError>
+        ensures gives { Gives (spec.all_while (spec.sees Word.Comma) (spec.next_param self.now.bytes.now) (first ∷ []) tokens.old.left.now) result tokens.new.left.now }
+        ensures fewer { OnOk result (length tokens.new.left.now ≤ length tokens.old.left.now) }
     {
         let mut params = Items::new(self.alloc);
-        params.push(self.param(tokens)?)?;
+        params.push(first)?;
         for _turn in 0..tokens.left.len() {
             if !tokens.sees(Word::Comma) {
                 return Ok(params);
@@ -101,6 +100,16 @@ impl Source<'_> {
             params.push(self.next_param(tokens)?)?;
         }
         Ok(params)
+    }
+
+    // One or more, with commas between.
+    #[tactic(auto, unfolding(crate::specs::Reading::some_params))]
+    fn some_params(&self, tokens: &mut Tokens<'_>) -> Result<Items<Param>, ReadError>
+        ensures gives { Gives (spec.some_params self.now.bytes.now tokens.old.left.now) result tokens.new.left.now }
+        ensures fewer { OnOk result (length tokens.new.left.now < length tokens.old.left.now) }
+    {
+        let first = self.param(tokens)?;
+        self.more_params(tokens, first)
     }
 
     #[tactic(auto, unfolding(crate::specs::Reading::params))]
