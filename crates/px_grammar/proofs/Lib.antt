@@ -27,3 +27,5 @@ pub mod Lexing
 pub mod Sizes
 pub mod Numbers
 pub mod Repeats
+pub mod Leading
+pub mod ReadTurns

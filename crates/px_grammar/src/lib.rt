@@ -5,6 +5,7 @@ mod blocks;
 mod classes;
 mod error;
 mod expressions;
+mod heads;
 pub mod law;
 mod lexeme;
 mod locals;
@@ -13,6 +14,7 @@ mod nodes;
 mod numbering;
 mod program;
 mod roles;
+mod signs;
 mod simple;
 mod source;
 mod statements;
@@ -24,7 +26,7 @@ mod word;
 
 pub use error::{ParseError, ReadError};
 pub use lexeme::{Lexeme, Word};
-pub use program::refused_line;
+pub use program::{parse, refused_line};
 pub use whole::Declared;
 pub use word::lexemes;
 
