@@ -1,5 +1,5 @@
 -- The numbering of each form.
-use Rattle.std.proofs.Common.{◌≡◌, ℕ, ◌+◌, Bool, List, [], ◌∷◌, ◌++◌, map, reverse, Option, option_map, refl, sym, ap, ◌∙◌, append_assoc}
+use Rattle.std.proofs.Common.{◌≡◌, ℕ, ◌+◌, Bool, List, [], ◌∷◌, ◌++◌, map, reverse, Option, Some, None, option_map, refl, sym, ap, ◌∙◌, append_assoc}
 use Rattle.std.proofs.lemmas.List.{append-nil, reverse-append, reverse-reverse}
 use Rattle.px_grammar.specs.declared.tree.Sign.{Sign}
 use Rattle.px_grammar.specs.declared.tree.Base.{Base}
@@ -56,7 +56,8 @@ pub of_index : (of index : Expr) → numbered_expression_form (Index of index) �
 of_index of index = at_form (e.Index of index) _ (sym (rolls-Index of index))
 
 pub of_call : (of : Option Expr) (name : NameData) (args : List Expr) → numbered_expression_form (Call of name args) ≡ (number_if (option_map numbered_expression of) >>= (λ x. in_order (map numbered_expression args) >>= (λ ys. pure (Call x name ys))))
-of_call of name args = at_form (e.Call of name args) _ (sym (rolls-Call of name args))
+of_call None name args = at_form (e.Call None name args) _ (sym (rolls-Call None name args))
+of_call (Some of) name args = at_form (e.Call (Some of) name args) _ (sym (rolls-Call (Some of) name args))
 
 pub of_object : (name : NameData) → numbered_expression_form (NewObject name) ≡ pure (NewObject name)
 of_object name = at_form (e.NewObject name) _ (sym (rolls-NewObject name))
@@ -105,7 +106,8 @@ pub of_call_statement : (call : Expr) → numbered_statement_form (CallStmt call
 of_call_statement call = at_statement (s.Call call) _ (sym (rolls-CallStmt call))
 
 pub of_if : (test : Expr) (then_part : Stmt) (else_part : Option Stmt) → numbered_statement_form (If test then_part else_part) ≡ (numbered_expression test >>= (λ t. numbered_statement then_part >>= (λ x. number_if (option_map numbered_statement else_part) >>= (λ y. pure (If t x y)))))
-of_if test then_part else_part = at_statement (s.If test then_part else_part) _ (sym (rolls-If test then_part else_part))
+of_if test then_part None = at_statement (s.If test then_part None) _ (sym (rolls-If test then_part None))
+of_if test then_part (Some else_part) = at_statement (s.If test then_part (Some else_part)) _ (sym (rolls-If test then_part (Some else_part)))
 
 pub of_while : (test : Expr) (body : Stmt) → numbered_statement_form (While test body) ≡ (numbered_expression test >>= (λ t. numbered_statement body >>= (λ b. pure (While t b))))
 of_while test body = at_statement (s.While test body) _ (sym (rolls-While test body))
