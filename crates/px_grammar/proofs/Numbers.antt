@@ -1,6 +1,7 @@
 -- The numbering of each form.
-use Rattle.std.proofs.Common.{◌≡◌, ℕ, ◌+◌, Bool, List, [], ◌∷◌, ◌++◌, map, reverse, Option, Some, None, option_map, refl, sym, ap, ◌∙◌, append_assoc}
+use Rattle.std.proofs.Common.{◌≡◌, ℕ, ◌+◌, Bool, List, [], ◌∷◌, ◌++◌, map, reverse, Option, Some, None, option_map, Result, Ok, Err, IfOk, refl, sym, ap, ◌∙◌, append_assoc}
 use Rattle.std.proofs.lemmas.List.{append-nil, reverse-append, reverse-reverse}
+use Rattle.std.specs.declared.alloc.AllocError.{AllocError}
 use Rattle.px_grammar.specs.declared.tree.Sign.{Sign}
 use Rattle.px_grammar.specs.declared.tree.Base.{Base}
 use Rattle.px_grammar.specs.declared.tree.Name.{Name as NameData}
@@ -144,6 +145,11 @@ pub four_parts : {A B C D E : Type 0} (whole : Numbering E) (first : Numbering A
 four_parts {A} {B} {C} {D} {E} whole first second third fourth wrap n m k j i x y z w h p q r t =
     ap (λ (f : Numbering E). f n) h ∙ ap (λ (v : A × ℕ). (second >>= (λ b. third >>= (λ c. fourth >>= (λ d. pure (wrap v.0 b c d))))) v.1) p
     ∙ three_parts (second >>= (λ b. third >>= (λ c. fourth >>= (λ d. pure (wrap x b c d))))) second third fourth (wrap x) m k j i y z w refl q r t
+
+-- what numbers a form that is told
+pub same_form : (form told : StmtForm) (result : Result StmtForm AllocError) (n m : ℕ) → form ≡ told → IfOk result (λ x. numbered_statement_form told n ≡ (x, m)) → IfOk result (λ x. numbered_statement_form form n ≡ (x, m))
+same_form form told (Ok x) n m e h = ap (λ (f : StmtForm). numbered_statement_form f n) e ∙ h
+same_form form told (Err x) n m e h = tt
 
 pub an_expression : (x : Expr) (n id next m : ℕ) (form : ExprForm) → id ≡ n → next ≡ n + 1 → numbered_expression_form x.form next ≡ (form, m) → numbered_expression x n ≡ (record { id = id; token = x.token; form = form }, m)
 an_expression x n id next m form h k p =
