@@ -1,6 +1,7 @@
 -- The numbering of each form.
-use Rattle.std.proofs.Common.{◌≡◌, ℕ, ◌+◌, Bool, List, [], ◌∷◌, ◌++◌, map, reverse, Option, option_map, refl, sym, ap, ◌∙◌, append_assoc}
+use Rattle.std.proofs.Common.{◌≡◌, ℕ, ◌+◌, Bool, List, [], ◌∷◌, ◌++◌, map, reverse, Option, Some, None, option_map, Result, Ok, Err, IfOk, refl, sym, ap, ◌∙◌, append_assoc}
 use Rattle.std.proofs.lemmas.List.{append-nil, reverse-append, reverse-reverse}
+use Rattle.std.specs.declared.alloc.AllocError.{AllocError}
 use Rattle.px_grammar.specs.declared.tree.Sign.{Sign}
 use Rattle.px_grammar.specs.declared.tree.Base.{Base}
 use Rattle.px_grammar.specs.declared.tree.Name.{Name as NameData}
@@ -56,7 +57,8 @@ pub of_index : (of index : Expr) → numbered_expression_form (Index of index) �
 of_index of index = at_form (e.Index of index) _ (sym (rolls-Index of index))
 
 pub of_call : (of : Option Expr) (name : NameData) (args : List Expr) → numbered_expression_form (Call of name args) ≡ (number_if (option_map numbered_expression of) >>= (λ x. in_order (map numbered_expression args) >>= (λ ys. pure (Call x name ys))))
-of_call of name args = at_form (e.Call of name args) _ (sym (rolls-Call of name args))
+of_call None name args = at_form (e.Call None name args) _ (sym (rolls-Call None name args))
+of_call (Some of) name args = at_form (e.Call (Some of) name args) _ (sym (rolls-Call (Some of) name args))
 
 pub of_object : (name : NameData) → numbered_expression_form (NewObject name) ≡ pure (NewObject name)
 of_object name = at_form (e.NewObject name) _ (sym (rolls-NewObject name))
@@ -105,7 +107,8 @@ pub of_call_statement : (call : Expr) → numbered_statement_form (CallStmt call
 of_call_statement call = at_statement (s.Call call) _ (sym (rolls-CallStmt call))
 
 pub of_if : (test : Expr) (then_part : Stmt) (else_part : Option Stmt) → numbered_statement_form (If test then_part else_part) ≡ (numbered_expression test >>= (λ t. numbered_statement then_part >>= (λ x. number_if (option_map numbered_statement else_part) >>= (λ y. pure (If t x y)))))
-of_if test then_part else_part = at_statement (s.If test then_part else_part) _ (sym (rolls-If test then_part else_part))
+of_if test then_part None = at_statement (s.If test then_part None) _ (sym (rolls-If test then_part None))
+of_if test then_part (Some else_part) = at_statement (s.If test then_part (Some else_part)) _ (sym (rolls-If test then_part (Some else_part)))
 
 pub of_while : (test : Expr) (body : Stmt) → numbered_statement_form (While test body) ≡ (numbered_expression test >>= (λ t. numbered_statement body >>= (λ b. pure (While t b))))
 of_while test body = at_statement (s.While test body) _ (sym (rolls-While test body))
@@ -142,6 +145,11 @@ pub four_parts : {A B C D E : Type 0} (whole : Numbering E) (first : Numbering A
 four_parts {A} {B} {C} {D} {E} whole first second third fourth wrap n m k j i x y z w h p q r t =
     ap (λ (f : Numbering E). f n) h ∙ ap (λ (v : A × ℕ). (second >>= (λ b. third >>= (λ c. fourth >>= (λ d. pure (wrap v.0 b c d))))) v.1) p
     ∙ three_parts (second >>= (λ b. third >>= (λ c. fourth >>= (λ d. pure (wrap x b c d))))) second third fourth (wrap x) m k j i y z w refl q r t
+
+-- what numbers a form that is told
+pub same_form : (form told : StmtForm) (result : Result StmtForm AllocError) (n m : ℕ) → form ≡ told → IfOk result (λ x. numbered_statement_form told n ≡ (x, m)) → IfOk result (λ x. numbered_statement_form form n ≡ (x, m))
+same_form form told (Ok x) n m e h = ap (λ (f : StmtForm). numbered_statement_form f n) e ∙ h
+same_form form told (Err x) n m e h = tt
 
 pub an_expression : (x : Expr) (n id next m : ℕ) (form : ExprForm) → id ≡ n → next ≡ n + 1 → numbered_expression_form x.form next ≡ (form, m) → numbered_expression x n ≡ (record { id = id; token = x.token; form = form }, m)
 an_expression x n id next m form h k p =

@@ -57,7 +57,8 @@ pub index_size : (of index : Expr) → size_of_form (Index of index) ≡ size_of
 index_size of index = at_form (e.Index of index) _ (sym (rolls-Index of index))
 
 pub call_size : (of : Option Expr) (name : NameData) (args : List Expr) → size_of_form (Call of name args) ≡ size_if (option_map size_of of) + total (map size_of args)
-call_size of name args = at_form (e.Call of name args) _ (sym (rolls-Call of name args))
+call_size None name args = at_form (e.Call None name args) _ (sym (rolls-Call None name args))
+call_size (Some of) name args = at_form (e.Call (Some of) name args) _ (sym (rolls-Call (Some of) name args))
 
 pub array_size : (base : Base) (size : Expr) → size_of_form (NewArray base size) ≡ size_of size
 array_size base size = at_form (e.NewArray base size) _ (sym (rolls-NewArray base size))
@@ -95,7 +96,8 @@ pub block_size : (items : List Stmt) → statement_size_of_form (Block items) �
 block_size items = at_statement (s.Block items) _ (sym (rolls-Block items))
 
 pub if_size : (test : Expr) (then_part : Stmt) (else_part : Option Stmt) → statement_size_of_form (If test then_part else_part) ≡ statement_size then_part + size_if (option_map statement_size else_part)
-if_size test then_part else_part = at_statement (s.If test then_part else_part) _ (sym (rolls-If test then_part else_part))
+if_size test then_part None = at_statement (s.If test then_part None) _ (sym (rolls-If test then_part None))
+if_size test then_part (Some else_part) = at_statement (s.If test then_part (Some else_part)) _ (sym (rolls-If test then_part (Some else_part)))
 
 pub while_size : (test : Expr) (body : Stmt) → statement_size_of_form (While test body) ≡ statement_size body
 while_size test body = at_statement (s.While test body) _ (sym (rolls-While test body))
@@ -106,7 +108,7 @@ for_size first test last body = at_statement (s.For first test last body) _ (sym
 -- ---- lists
 
 pub total_append : {A : Type 0} (f : A → ℕ) (xs ys : List A) → total (map f (xs ++ ys)) ≡ total (map f xs) + total (map f ys)
-total_append f [] ys = refl
+total_append f [] ys = omega arith
 total_append f (x ∷ xs) ys = let h : _ ≡ _ = total_append f xs ys in omega (arith, h)
 
 pub total_reverse : {A : Type 0} (f : A → ℕ) (xs : List A) → total (map f (reverse xs)) ≡ total (map f xs)

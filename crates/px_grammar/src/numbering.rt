@@ -183,6 +183,43 @@ impl Numbers {
     }
 
     #[cycle(statement)]
+    fn conditional(
+        &mut self,
+        test: Expr,
+        yes: Boxed<Stmt>,
+        no: Option<Boxed<Stmt>>,
+    ) -> Result<StmtForm, AllocError>
+        ensures { IfOk result (λ x. numbered_statement_form (StmtForm.If test yes no) self.old.next ≡ (x, self.new.next)) }
+    {
+        let test = self.expression(test)?;
+        let yes = self.boxed_statement(yes)?;
+        let no = self.else_part(no)?;
+        Ok(StmtForm::If { test, yes, no })
+    }
+
+    #[cycle(statement)]
+    fn for_loop(
+        &mut self,
+        first: Boxed<Stmt>,
+        test: Expr,
+        last: Boxed<Stmt>,
+        body: Boxed<Stmt>,
+    ) -> Result<StmtForm, AllocError>
+        ensures { IfOk result (λ x. numbered_statement_form (StmtForm.For first test last body) self.old.next ≡ (x, self.new.next)) }
+    {
+        let first = self.boxed_statement(first)?;
+        let test = self.expression(test)?;
+        let last = self.boxed_statement(last)?;
+        let body = self.boxed_statement(body)?;
+        Ok(StmtForm::For {
+            first,
+            test,
+            last,
+            body,
+        })
+    }
+
+    #[cycle(statement)]
     fn statement_form(&mut self, form: StmtForm) -> Result<StmtForm, AllocError>
         ensures { IfOk result (λ x. numbered_statement_form form self.old.next ≡ (x, self.new.next)) }
     {
@@ -211,12 +248,7 @@ impl Numbers {
                 let call = self.expression(call)?;
                 Ok(StmtForm::Call(call))
             }
-            StmtForm::If { test, yes, no } => {
-                let test = self.expression(test)?;
-                let yes = self.boxed_statement(yes)?;
-                let no = self.else_part(no)?;
-                Ok(StmtForm::If { test, yes, no })
-            }
+            StmtForm::If { test, yes, no } => self.conditional(test, yes, no),
             StmtForm::While { test, body } => {
                 let test = self.expression(test)?;
                 let body = self.boxed_statement(body)?;
@@ -227,18 +259,7 @@ impl Numbers {
                 test,
                 last,
                 body,
-            } => {
-                let first = self.boxed_statement(first)?;
-                let test = self.expression(test)?;
-                let last = self.boxed_statement(last)?;
-                let body = self.boxed_statement(body)?;
-                Ok(StmtForm::For {
-                    first,
-                    test,
-                    last,
-                    body,
-                })
-            }
+            } => self.for_loop(first, test, last, body),
             StmtForm::Return(value) => {
                 let value = self.returned(value)?;
                 Ok(StmtForm::Return(value))

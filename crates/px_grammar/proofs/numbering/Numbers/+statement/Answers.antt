@@ -2,7 +2,7 @@ use Rattle.std.proofs.Common.{map, option_map, ap, ◌∙◌, arith}
 use Rattle.px_grammar.specs.declared.tree.StmtForm.TheVariants.{Block, Local, Assign, Compound, Call, If, While, For, Return, Print}
 use Rattle.px_grammar.specs.Numbering.{in_order, number_if, number_returned, numbered_expression, numbered_statement, numbered_statement_form}
 use Rattle.px_grammar.proofs.Sizes.{total, statement_size, statement_size_of_form, statement_size_of_its_form, block_size, if_size, while_size, for_size, total_reverse, total_last}
-use Rattle.px_grammar.proofs.Numbers.{of_block, of_empty, of_local, of_assign, of_compound, of_up, of_down, of_call_statement, of_if, of_while, of_for, of_return, of_print, no_part, one_part, two_parts, three_parts, four_parts, a_statement, joined_start, joined_turn}
+use Rattle.px_grammar.proofs.Numbers.{of_block, of_empty, of_local, of_assign, of_compound, of_up, of_down, of_call_statement, of_if, of_while, of_for, of_return, of_print, no_part, one_part, two_parts, three_parts, four_parts, a_statement, same_form, joined_start, joined_turn}
 use Rattle.px_grammar.proofs.numbering.Numbers.+statement.Goals as goal
 
 pub items-loop-item-init : goal.items-loop-item-init
@@ -64,35 +64,12 @@ pub statement_form-returns-in_ok-call-in-Call : goal.statement_form-returns-in_o
 statement_form-returns-in_ok-call-in-Call t c =
     one_part (numbered_statement_form c.args.form) (numbered_expression c.in-Call.call) (λ x. Call x) c.args.self.now.next _ _ (ap numbered_statement_form c.in-Call.is ∙ of_call_statement c.in-Call.call) c.in_ok-call-in-Call.ensures
 
-pub statement_form-returns-in_ok-no-in-If : goal.statement_form-returns-in_ok-no-in-If
-statement_form-returns-in_ok-no-in-If t c =
-    three_parts (numbered_statement_form c.args.form) (numbered_expression c.in-If.test) (numbered_statement c.in-If.yes) (number_if (option_map numbered_statement c.in-If.no)) (λ x y z. If x y z) c.args.self.now.next _ _ _ _ _ _ (ap numbered_statement_form c.in-If.is ∙ of_if c.in-If.test c.in-If.yes c.in-If.no) c.in_ok-test-in-If.ensures c.in_ok-yes-in-If.ensures c.in_ok-no-in-If.ensures
-
-pub statement_form-boxed_statement-requires : goal.statement_form-boxed_statement-requires
-statement_form-boxed_statement-requires t c = let e = ap statement_size_of_form c.in-If.is ∙ if_size c.in-If.test c.in-If.yes c.in-If.no in (omega (arith, e, c.decreases), tt)
-
-pub statement_form-else_part-requires : goal.statement_form-else_part-requires
-statement_form-else_part-requires t c = let e = ap statement_size_of_form c.in-If.is ∙ if_size c.in-If.test c.in-If.yes c.in-If.no in (omega (arith, e, c.decreases), tt)
-
 pub statement_form-returns-in_ok-body-in-While : goal.statement_form-returns-in_ok-body-in-While
 statement_form-returns-in_ok-body-in-While t c =
     two_parts (numbered_statement_form c.args.form) (numbered_expression c.in-While.test) (numbered_statement c.in-While.body) (λ x y. While x y) c.args.self.now.next _ _ _ _ (ap numbered_statement_form c.in-While.is ∙ of_while c.in-While.test c.in-While.body) c.in_ok-test-in-While.ensures c.in_ok-body-in-While.ensures
 
-pub statement_form-boxed_statement-requires-in-While : goal.statement_form-boxed_statement-requires-in-While
-statement_form-boxed_statement-requires-in-While t c = let e = ap statement_size_of_form c.in-While.is ∙ while_size c.in-While.test c.in-While.body in (omega (arith, e, c.decreases), tt)
-
-pub statement_form-returns-in_ok-body-in-For : goal.statement_form-returns-in_ok-body-in-For
-statement_form-returns-in_ok-body-in-For t c =
-    four_parts (numbered_statement_form c.args.form) (numbered_statement c.in-For.first) (numbered_expression c.in-For.test) (numbered_statement c.in-For.last) (numbered_statement c.in-For.body) (λ x y z w. For x y z w) c.args.self.now.next _ _ _ _ _ _ _ _ (ap numbered_statement_form c.in-For.is ∙ of_for c.in-For.first c.in-For.test c.in-For.last c.in-For.body) c.in_ok-first-in-For.ensures c.in_ok-test-in-For.ensures c.in_ok-last-in-For.ensures c.in_ok-body-in-For.ensures
-
-pub statement_form-boxed_statement-requires-in-For : goal.statement_form-boxed_statement-requires-in-For
-statement_form-boxed_statement-requires-in-For t c = let e = ap statement_size_of_form c.in-For.is ∙ for_size c.in-For.first c.in-For.test c.in-For.last c.in-For.body in (omega (arith, e, c.decreases), tt)
-
-pub statement_form-boxed_statement-requires-in-For-2 : goal.statement_form-boxed_statement-requires-in-For-2
-statement_form-boxed_statement-requires-in-For-2 t c = let e = ap statement_size_of_form c.in-For.is ∙ for_size c.in-For.first c.in-For.test c.in-For.last c.in-For.body in (omega (arith, e, c.decreases), tt)
-
-pub statement_form-boxed_statement-requires-in-For-3 : goal.statement_form-boxed_statement-requires-in-For-3
-statement_form-boxed_statement-requires-in-For-3 t c = let e = ap statement_size_of_form c.in-For.is ∙ for_size c.in-For.first c.in-For.test c.in-For.last c.in-For.body in (omega (arith, e, c.decreases), tt)
+pub statement_form-boxed_statement-requires : goal.statement_form-boxed_statement-requires
+statement_form-boxed_statement-requires t c = let e = ap statement_size_of_form c.in-While.is ∙ while_size c.in-While.test c.in-While.body in (omega (arith, e, c.decreases), tt)
 
 pub statement_form-returns-in_ok-value-in-Return : goal.statement_form-returns-in_ok-value-in-Return
 statement_form-returns-in_ok-value-in-Return t c =
@@ -101,3 +78,24 @@ statement_form-returns-in_ok-value-in-Return t c =
 pub statement_form-returns-in_ok-value-in-Print : goal.statement_form-returns-in_ok-value-in-Print
 statement_form-returns-in_ok-value-in-Print t c =
     one_part (numbered_statement_form c.args.form) (numbered_expression c.in-Print.value) (λ x. Print x) c.args.self.now.next _ _ (ap numbered_statement_form c.in-Print.is ∙ of_print c.in-Print.value) c.in_ok-value-in-Print.ensures
+
+pub statement_form-conditional-requires : goal.statement_form-conditional-requires
+statement_form-conditional-requires t c = let e = ap statement_size_of_form c.in-If.is ∙ if_size c.in-If.test c.in-If.yes c.in-If.no in (omega (arith, e, c.decreases), tt)
+
+pub statement_form-returns-in-If : goal.statement_form-returns-in-If
+statement_form-returns-in-If t c = same_form c.args.form (If c.in-If.test c.in-If.yes c.in-If.no) c.conditional.result c.args.self.now.next c.conditional.new.self.next c.in-If.is c.conditional.ensures
+
+pub statement_form-for_loop-requires : goal.statement_form-for_loop-requires
+statement_form-for_loop-requires t c = let e = ap statement_size_of_form c.in-For.is ∙ for_size c.in-For.first c.in-For.test c.in-For.last c.in-For.body in (omega (arith, e, c.decreases), tt)
+
+pub statement_form-returns-in-For : goal.statement_form-returns-in-For
+statement_form-returns-in-For t c = same_form c.args.form (For c.in-For.first c.in-For.test c.in-For.last c.in-For.body) c.for_loop.result c.args.self.now.next c.for_loop.new.self.next c.in-For.is c.for_loop.ensures
+
+pub conditional-returns : goal.conditional-returns
+conditional-returns t c =
+    three_parts (numbered_statement_form (If c.args.test c.args.yes c.args.no)) (numbered_expression c.args.test) (numbered_statement c.args.yes) (number_if (option_map numbered_statement c.args.no)) (λ x y z. If x y z) c.args.self.now.next _ _ _ _ _ _ (of_if c.args.test c.args.yes c.args.no) c.in_ok-test.ensures c.in_ok-yes.ensures c.in_ok-no.ensures
+
+pub for_loop-returns : goal.for_loop-returns
+for_loop-returns t c =
+    four_parts (numbered_statement_form (For c.args.first c.args.test c.args.last c.args.body)) (numbered_statement c.args.first) (numbered_expression c.args.test) (numbered_statement c.args.last) (numbered_statement c.args.body) (λ x y z w. For x y z w) c.args.self.now.next _ _ _ _ _ _ _ _ (of_for c.args.first c.args.test c.args.last c.args.body)
+    c.in_ok-first.ensures c.in_ok-test.ensures c.in_ok-last.ensures c.in_ok-body.ensures
