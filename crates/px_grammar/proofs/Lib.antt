@@ -29,3 +29,4 @@ pub mod Numbers
 pub mod Repeats
 pub mod Leading
 pub mod ReadTurns
+pub mod Parsing

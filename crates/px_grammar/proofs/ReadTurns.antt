@@ -1,15 +1,16 @@
 -- One turn of a reading function.
-use Rattle.std.proofs.Common.{◌≡◌, ℕ, zero, suc, ◌+◌, ◌<◌, ◌≤◌, length, Bool, true, false, if◌then◌else◌, List, [], ◌∷◌, ◌++◌, Option, Some, None, OnSome, Result, Ok, Err, refl, sym, ap, ◌∙◌, subst, arith}
+use Rattle.std.proofs.Common.{◌≡◌, ℕ, zero, suc, ◌<◌, ◌≤◌, length, Bool, true, false, if◌then◌else◌, List, [], ◌∷◌, ◌++◌, Option, Some, OnSome, Result, Ok, Err, refl, sym, ap, ◌∙◌, subst, arith}
 use Rattle.std.proofs.lemmas.Bool.{false≢true}
 use Rattle.std.specs.Result.{IsErrAnd}
 use Rattle.px_grammar.specs.declared.lexeme.Word.{Word}
 use Rattle.px_grammar.specs.declared.lexeme.Word.TheVariants as w
 use Rattle.px_grammar.specs.declared.lexeme.Lexeme.{Lexeme}
 use Rattle.px_grammar.specs.declared.tree.Expr.{Expr}
+use Rattle.px_grammar.specs.declared.tree.Stmt.{Stmt}
 use Rattle.px_grammar.specs.declared.error.ReadError.{ReadError}
 use Rattle.px_grammar.specs.declared.error.ReadError.TheVariants.{Unreadable, NoMemory}
 use Rattle.px_grammar.specs.Words.{prefix_sign, binary_sign}
-use Rattle.px_grammar.specs.Reading.{State, Read, Reads, and_then, ◌>>=◌, pure, next_word, same_word, sees, take, repeated, next_argument, postfix_on, postfixes, postfix, operand_on, operand, operator_on, operators, joined, expression, Gives, Fails}
+use Rattle.px_grammar.specs.Reading.{State, Read, Reads, and_then, ◌>>=◌, next_word, same_word, sees, take, repeated, next_argument, postfix_on, postfixes, postfix, operand_on, operand, operator_on, operators, joined, expression, place, by_word, simple_on, simple, Gives, Fails}
 use Rattle.px_grammar.proofs.Leading.{gives_as}
 
 -- ---- how a function that reads ends
@@ -84,6 +85,13 @@ argument_read inner m found more s s' s'' whole x argument h c k t g p d =
           ∙ ap (λ (r : Read Expr). and_then r (λ x. repeated (sees w.Comma) (next_argument inner) turn.0 (found ++ x ∷ []))) g
           ∙ ap (λ (xs : List Expr). repeated (sees w.Comma) (next_argument inner) turn.0 xs s'') (sym p),
     )
+
+-- ---- simple statements
+
+pub simple_by : (source : List ℕ) (s s' : State) (at : Expr) (x : Word) (result : Result Stmt ReadError) (now : State) → place source s ≡ Some (at, s') → next_word s' ≡ x → Gives (simple_on source at x s') result now → Gives (simple source s) result now
+unfolding simple
+simple_by source s s' at x result now h e g =
+    goes_on (place source s) (λ at. by_word (simple_on source at)) _ at s' result now refl h (gives_as _ _ result now (ap (λ y. simple_on source at y s') e) g)
 
 -- ---- a part that stands there
 

@@ -1,6 +1,5 @@
 -- What an expression begins with, before an expression in it is read, and how reading goes on behind it.
 use Rattle.std.specs.Prelude.{◌≡◌, ℕ, ◌+◌, List, Option, Some, None, Result, Ok, Err}
-use Rattle.px_grammar.specs.declared.lexeme.Lexeme.{Lexeme}
 use Rattle.px_grammar.specs.declared.lexeme.Word.{Word}
 use Rattle.px_grammar.specs.declared.lexeme.Word.TheVariants as w
 use Rattle.px_grammar.specs.declared.tree.Expr.{Expr}
@@ -11,7 +10,7 @@ use Rattle.px_grammar.specs.declared.heads.Suffix.{Suffix}
 use Rattle.px_grammar.specs.declared.heads.Suffix.TheVariants as suffix
 use Rattle.px_grammar.specs.declared.heads.Operator.{Operator}
 use Rattle.px_grammar.specs.declared.error.ReadError.{ReadError}
-use Rattle.px_grammar.specs.Reading.{Read, Reads, and_then, ◌>>=◌, ◌>>◌, pure, expect, own_call, member_call, Fails}
+use Rattle.px_grammar.specs.Reading.{Read, Reads, ◌>>=◌, ◌>>◌, pure, expect, own_call, member_call, Fails}
 use Rattle.px_grammar.specs.Trees.{group_of, field_of, element_of, array_of, prefix_of, binary_of}
 use Rattle.px_grammar.specs.Words.{level}
 

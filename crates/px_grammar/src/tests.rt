@@ -1,5 +1,6 @@
 ghost use Rattle.std.specs.Prelude.{◌<◌, ◌^◌, length};
 
+mod expressions;
 mod nesting;
 mod places;
 mod prefixes;

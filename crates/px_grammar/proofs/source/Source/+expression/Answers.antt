@@ -1,4 +1,4 @@
-use Rattle.std.proofs.Common.{◌∙◌, ◌+◌, ◌<◌, ◌≤◌, suc, length, sym, ap, refl, Some, Ok, arith}
+use Rattle.std.proofs.Common.{◌∙◌, ◌+◌, ◌<◌, suc, length, sym, ap, refl, Some, Ok, arith}
 use Rattle.px_grammar.specs.declared.lexeme.Word.TheVariants as w
 use Rattle.px_grammar.specs.Reading.{and_then, expression, postfixes, operand, operators, postfix, next_argument, sees, take}
 use Rattle.px_grammar.specs.Heads.{behind_suffix, behind_suffixes, behind_prefix, behind_operator}
