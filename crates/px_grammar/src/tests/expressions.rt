@@ -6,10 +6,11 @@ use crate::source::Source;
 use crate::tokens::Tokens;
 use crate::tree::{Expr, ExprForm, Sign, Stmt, StmtForm};
 use crate::word::lexemes;
+use sqlite_items::Boxed;
 use std::alloc::Global;
 
 // A letter for the form of the top, and the token of its operator or how many arguments it has.
-const EXPRESSIONS: [(&[u8], u8, u32); 36] = [
+const EXPRESSIONS: [(&[u8], u8, usize); 36] = [
     (b"17", b'1', 0),
     (b"\"a\"", b's', 0),
     (b"true", b't', 0),
@@ -48,7 +49,7 @@ const EXPRESSIONS: [(&[u8], u8, u32); 36] = [
     (b"a >>> b > c <= d", b'2', 5),
 ];
 
-fn top(form: &ExprForm) -> (u8, u32) {
+fn top(form: &ExprForm) -> (u8, usize) {
     match form {
         ExprForm::Number { .. } => (b'1', 0),
         ExprForm::Str(_) => (b's', 0),
@@ -60,12 +61,12 @@ fn top(form: &ExprForm) -> (u8, u32) {
         ExprForm::Group(_) => (b'(', 0),
         ExprForm::Field { .. } => (b'.', 0),
         ExprForm::Index { .. } => (b'[', 0),
-        ExprForm::Call { of: None, args, .. } => (b'c', args.len() as u32),
-        ExprForm::Call { args, .. } => (b'm', args.len() as u32),
+        ExprForm::Call { of: None, args, .. } => (b'c', args.len()),
+        ExprForm::Call { args, .. } => (b'm', args.len()),
         ExprForm::NewObject(_) => (b'o', 0),
         ExprForm::NewArray { .. } => (b'a', 0),
         ExprForm::Prefix { sign, .. } => (prefix_letter(*sign), 0),
-        ExprForm::Binary { sign_token, .. } => (b'2', *sign_token),
+        ExprForm::Binary { sign_token, .. } => (b'2', *sign_token as usize),
     }
 }
 
@@ -81,14 +82,14 @@ fn prefix_letter(sign: Sign) -> u8 {
 }
 
 // The expression, and how many lexemes are left behind it.
-fn read(alloc: Global, text: &[u8]) -> Result<(Expr, usize), ReadError>
+fn read(alloc: Global, text: &[u8]) -> Result<(Boxed<Expr>, usize), ReadError>
     requires { length text.now < 2 ^ 31 }
 {
     let tokens = px_lex::lex(alloc, text)?;
     let lexemes = lexemes(alloc, text, &tokens)?;
     let source = Source { alloc, bytes: text };
     let mut tokens = Tokens { left: &lexemes };
-    let read = source.expression(&mut tokens)?;
+    let read = Boxed::new(alloc, source.expression(&mut tokens)?)?;
     Ok((read, tokens.left.len()))
 }
 
@@ -97,7 +98,7 @@ fn expressions_are_read(rt: HostRuntime) -> Result<(), ReadError> {
     for (text, letter, number) in EXPRESSIONS {
         assert!(rt; text.len() < 100);
         let (read, left) = read(rt.alloc(), text)?;
-        assert_eq!(rt; top(&read.form), (letter, number), "at {text:?}");
+        assert_eq!(rt; top(&read.get().form), (letter, number), "at {text:?}");
         // The end of the text.
         assert_eq!(rt; left, 1, "at {text:?}");
     }
@@ -107,12 +108,12 @@ fn expressions_are_read(rt: HostRuntime) -> Result<(), ReadError> {
 #[test]
 fn literals_are_read(rt: HostRuntime) -> Result<(), ReadError> {
     let (text, _) = read(rt.alloc(), b"\"a\\n\\t\\\"\\\\n\"")?;
-    let ExprForm::Str(bytes) = &text.form else {
+    let ExprForm::Str(bytes) = &text.get().form else {
         panic!(rt; "no text");
     };
     assert_eq!(rt; bytes.as_slice(), b"a\n\t\"\\n".as_slice());
     let (number, _) = read(rt.alloc(), b"120l")?;
-    let ExprForm::Number { digits, long } = &number.form else {
+    let ExprForm::Number { digits, long } = &number.get().form else {
         panic!(rt; "no number");
     };
     assert_eq!(rt; (digits.as_slice(), *long), (b"120".as_slice(), true));
@@ -141,14 +142,14 @@ fn letter(form: &StmtForm) -> u8 {
     }
 }
 
-fn read_simple(alloc: Global, text: &[u8]) -> Result<(Stmt, usize), ReadError>
+fn read_simple(alloc: Global, text: &[u8]) -> Result<(Boxed<Stmt>, usize), ReadError>
     requires { length text.now < 2 ^ 31 }
 {
     let tokens = px_lex::lex(alloc, text)?;
     let lexemes = lexemes(alloc, text, &tokens)?;
     let source = Source { alloc, bytes: text };
     let mut tokens = Tokens { left: &lexemes };
-    let read = source.simple(&mut tokens)?;
+    let read = Boxed::new(alloc, source.simple(&mut tokens)?)?;
     Ok((read, tokens.left.len()))
 }
 
@@ -157,7 +158,7 @@ fn simple_statements_are_read(rt: HostRuntime) -> Result<(), ReadError> {
     for (text, form) in STATEMENTS {
         assert!(rt; text.len() < 100);
         let (read, left) = read_simple(rt.alloc(), text)?;
-        assert_eq!(rt; (letter(&read.form), left), (form, 1), "at {text:?}");
+        assert_eq!(rt; (letter(&read.get().form), left), (form, 1), "at {text:?}");
     }
     Ok(())
 }
