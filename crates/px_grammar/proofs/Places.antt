@@ -1,9 +1,8 @@
 -- Where the acceptor refuses a text's roles, its lexemes stop being the beginning of a program.
-use Rattle.std.proofs.Common.{◌≡◌, ℕ, ◌+◌, ◌<◌, ◌≤◌, ◌⊎◌, inl, inr, List, [], ◌∷◌, ◌++◌, length, map, take, drop, append_assoc, zero, suc, refl, sym, ap, ◌∙◌, subst, arith}
+use Rattle.std.proofs.Common.{◌≡◌, ℕ, ◌+◌, ◌<◌, ◌≤◌, ◌⊎◌, inl, inr, List, [], ◌∷◌, ◌++◌, length, take, drop, append_assoc, zero, suc, refl, sym, ap, ◌∙◌, subst, arith}
 use Rattle.std.proofs.lemmas.Bool.{cases_order}
 use Rattle.std.proofs.Math.Nat.{eq-or-lt_of_le}
 use Rattle.px_grammar.specs.declared.lexeme.Lexeme.{Lexeme}
-use Rattle.px_accept.specs.declared.role.Role.{Role}
 use Rattle.px_accept.specs.Place as accept
 use Rattle.px_accept.specs.Grammar as flat
 use Rattle.px_grammar.specs.declared.whole.Declared.{Declared}

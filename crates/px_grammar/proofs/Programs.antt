@@ -9,9 +9,8 @@ use Rattle.px_lex.specs.Cutting.{tokens_of}
 use Rattle.px_grammar.specs.Lexemes.{lexemes_of}
 use Rattle.px_grammar.specs.declared.tree.Program.{Program}
 use Rattle.px_grammar.specs.declared.whole.Declared.{Declared}
-use Rattle.px_grammar.specs.Grammar.{SpellsProgram}
 use Rattle.px_grammar.specs.Numbering.{numbered_classes}
-use Rattle.px_grammar.specs.Places.{IsShallow, IsRefusedAt, line_at}
+use Rattle.px_grammar.specs.Places.{IsRefusedAt, line_at}
 use Rattle.px_grammar.specs.Programs.{IsProgram, IsProgramText}
 use Rattle.px_grammar.proofs.CompletePrograms.{one_tree}
 use Rattle.px_grammar.proofs.Places.{one_place, refused_nowhere, refused_place, accepted_tree, accepted_shallow}

@@ -5,6 +5,7 @@ pub mod Trees
 pub mod Numbering
 pub mod Grammar
 pub mod Reading
+pub mod Heads
 pub mod Places
 pub mod Unbuilt
 pub mod Programs

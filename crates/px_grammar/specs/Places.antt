@@ -1,5 +1,5 @@
 -- Where a text stops being the beginning of a program.
-use Rattle.std.specs.Prelude.{◌≡◌, ℕ, ◌+◌, ◌-◌, ◌<◌, ◌≤◌, ◌⊎◌, List, ◌++◌, length, map, take, nat_lt, if◌then◌else◌}
+use Rattle.std.specs.Prelude.{◌≡◌, ℕ, ◌+◌, ◌-◌, ◌<◌, ◌≤◌, ◌⊎◌, List, ◌++◌, length, map, take}
 use Rattle.std.specs.List.{slice_index_or}
 use Rattle.px_lex.specs.declared.token.Token.{Token}
 use Rattle.px_grammar.specs.declared.lexeme.Lexeme.{Lexeme}

@@ -1,6 +1,6 @@
 -- Reading, as functions on the lexemes that are left. They are used where the text is known to be a program, so they look at no more than
 -- tells them how to go on.
-use Rattle.std.specs.Prelude.{◌≡◌, ℕ, zero, suc, ◌+◌, ◌-◌, ◌&&◌, ◌||◌, Bool, true, false, not, nat_le, List, [], ◌∷◌, ◌++◌, length, drop, Option, Some, None, Result, Ok, Err, if◌then◌else◌}
+use Rattle.std.specs.Prelude.{◌≡◌, ℕ, zero, suc, ◌+◌, ◌&&◌, ◌||◌, Bool, not, nat_le, List, [], ◌∷◌, ◌++◌, length, drop, Option, Some, None, Result, Ok, Err, if◌then◌else◌}
 use denote.Enum.Bare.{sameb}
 use Rattle.px_grammar.specs.contracts.lexeme.Word.{the_type}
 use Rattle.px_grammar.specs.declared.lexeme.Lexeme.{Lexeme}
@@ -26,8 +26,8 @@ use Rattle.px_grammar.specs.declared.error.ReadError.{ReadError}
 use Rattle.px_grammar.specs.declared.error.ReadError.TheVariants.{Unreadable, NoMemory}
 use Rattle.px_grammar.specs.declared.whole.Declared.{Declared}
 use Rattle.px_grammar.specs.Lexemes.{is_name}
-use Rattle.px_grammar.specs.Words.{binary_sign, level, prefix_sign, cast_sign, compound_sign, is_primitive, is_base}
-use Rattle.px_grammar.specs.Trees.{first_token, single_type_of, array_type_of, expression_of, number_of, text_of, word_form, variable_of, group_of, field_of, element_of, own_call_of, call_of, object_of, array_of, prefix_of, binary_of, statement_of, block_of, empty_of, local_of, assignment_of, compound_of, up_of, down_of, call_statement_of, if_of, while_of, for_of, return_of, print_of, param_of, field_declaration_of, method_with, class_of, column_of, table_of}
+use Rattle.px_grammar.specs.Words.{binary_sign, level, prefix_sign, compound_sign, is_primitive}
+use Rattle.px_grammar.specs.Trees.{first_token, single_type_of, array_type_of, expression_of, number_of, text_of, word_form, variable_of, group_of, field_of, element_of, own_call_of, call_of, object_of, array_of, prefix_of, binary_of, statement_of, block_of, empty_of, local_of, assignment_of, call_statement_of, if_of, while_of, for_of, return_of, print_of, param_of, field_declaration_of, method_with, class_of, column_of, table_of}
 
 -- the lexemes that are left
 abbrev pub State : Type 0
