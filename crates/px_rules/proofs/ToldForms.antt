@@ -1,5 +1,5 @@
 -- What is known of each form of a statement.
-use Rattle.std.proofs.Common.{◌≡◌, ℕ, List, [], map, Some, None, Option, sym, ap, ◌∙◌}
+use Rattle.std.proofs.Common.{◌≡◌, ℕ, List, [], ◌∷◌, ◌++◌, map, Some, None, Option, Result, Ok, Err, OnOk, sym, ap, ◌∙◌}
 use Rattle.std.specs.Option.{option_map}
 use Rattle.px_grammar.specs.declared.tree.Sign.{Sign}
 use Rattle.px_grammar.specs.declared.tree.Name.{Name}
@@ -9,9 +9,12 @@ use Rattle.px_grammar.specs.declared.tree.Stmt.{Stmt, fold_out-Stmt}
 use Rattle.px_grammar.specs.declared.tree.StmtForm.{StmtForm, StmtForm-F, fold-StmtForm, fold-roll-StmtForm, roll-StmtForm, map-StmtForm}
 use Rattle.px_grammar.specs.declared.tree.StmtForm.TheVariants.{Block, rolls-Block, Empty, rolls-Empty, Local, rolls-Local, Assign, rolls-Assign, Compound, rolls-Compound, Up, rolls-Up, Down, rolls-Down, Call, rolls-Call, If, rolls-If, While, rolls-While, For, rolls-For, Return, rolls-Return, Print, rolls-Print}
 use Rattle.px_grammar.specs.declared.tree.StmtForm.TheOpen.{StmtForm-F as f}
+use Rattle.px_rules.specs.declared.checked.Fact.{Fact}
 use Rattle.px_rules.specs.declared.home.Home.{Home}
 use Rattle.px_rules.specs.declared.scope.Scope.{Scope}
 use Rattle.px_rules.specs.Known.{known, all_facts}
+use Rattle.px_rules.specs.Facts.{no_fact}
+use Rattle.px_rules.proofs.KnownForms.{both_added}
 use Rattle.px_rules.specs.Told.{Tells, told, told_step, whole, plain, block_told, local_told, assign_told, change_told, value_told, return_told, if_told, while_told, for_told}
 
 told_at : (c : Home) (s : Stmt) (y : StmtForm-F StmtForm Stmt) (l : Scope) → s.form ≡ roll-StmtForm y → told c s l ≡ told_step c (map-StmtForm StmtForm Stmt Tells Tells (fold-StmtForm Tells Tells (told_step c) whole) (told c) y) l
@@ -62,3 +65,33 @@ pub told_print : (c : Home) (s : Stmt) (l : Scope) (value : Expr) → s.form ≡
 told_print c s l value h = told_at c s (f.Print value) l (h ∙ sym (rolls-Print value))
 
 pub ruleset forms = (told_block, told_empty, told_local, told_assign, told_compound, told_up, told_down, told_call, told_if, told_while, told_for, told_return, told_print)
+
+-- ---- one part after another
+
+pub then_added : {A E : Type 0} (r : Result A E) (f0 f1 f2 xs ys : List Fact) → f1 ≡ f0 ++ xs → OnOk r (f2 ≡ f1 ++ ys) → OnOk r (f2 ≡ f0 ++ (xs ++ ys))
+then_added (Ok a) f0 f1 f2 xs ys h k = both_added f0 f1 f2 xs ys h k
+then_added (Err e) f0 f1 f2 xs ys h k = tt
+
+pub same_on : {A E X : Type 0} (r : Result A E) (a b c : X) → OnOk r (a ≡ b) → b ≡ c → OnOk r (a ≡ c)
+same_on (Ok x) a b c h k = h ∙ k
+same_on (Err e) a b c h k = tt
+
+-- the parts of a `for`, each behind the locals of the one before it
+pub for_scopes : (first last body : Tells) (l0 l1 l2 l3 : Scope) → l1 ≡ (first l0).scope → l2 ≡ (last l1).scope → l3 ≡ (body l2).scope → l3 ≡ (body (last (first l0).scope).scope).scope
+for_scopes first last body l0 l1 l2 l3 e1 e2 e3 = e3 ∙ (λ i. (body (e2 i)).scope) ∙ (λ i. (body (last (e1 i)).scope).scope)
+
+pub for_facts : (c : Home) (first last body : Tells) (test : Expr) (l0 l1 l2 : Scope) (f0 f1 f2 f3 f4 f5 : List Fact)
+    → f1 ≡ f0 ++ no_fact ∷ [] → l1 ≡ (first l0).scope → f2 ≡ f1 ++ (first l0).facts → f3 ≡ f2 ++ all_facts (known c test l1)
+    → l2 ≡ (last l1).scope → f4 ≡ f3 ++ (last l1).facts → f5 ≡ f4 ++ (body l2).facts
+    → f5 ≡ f0 ++ (for_told c first test last body l0).facts
+for_facts c first last body test l0 l1 l2 f0 f1 f2 f3 f4 f5 n0 e1 n1 n2 e2 n3 n4 =
+    let f = (first l0).facts in
+    let t = all_facts (known c test l1) in
+    let l = (last l1).facts in
+    let b = (body l2).facts in
+    both_added f0 f1 f5 (no_fact ∷ []) (f ++ (t ++ (l ++ b))) n0
+    (both_added f1 f2 f5 f (t ++ (l ++ b)) n1
+    (both_added f2 f3 f5 t (l ++ b) n2
+    (both_added f3 f4 f5 l b n3 n4)))
+    ∙ (λ i. f0 ++ no_fact ∷ (f ++ (t ++ (l ++ (body (e2 i)).facts))))
+    ∙ (λ i. f0 ++ no_fact ∷ (f ++ (all_facts (known c test (e1 i)) ++ ((last (e1 i)).facts ++ (body (last (e1 i)).scope).facts))))
