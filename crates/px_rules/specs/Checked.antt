@@ -1,14 +1,18 @@
 -- What a check tells of a program: the line and the code of its first breach, or all that is known of it.
-use Rattle.std.specs.Prelude.{ℕ, List, [], Option, Some, None, map, slice_get}
+use Rattle.std.specs.Prelude.{ℕ, List, Option, Some, None, map, slice_get}
 use Rattle.std.specs.Option.{option_map}
 use Rattle.px_lex.specs.declared.token.Token.{Token}
 use Rattle.px_grammar.specs.declared.tree.Program.{Program}
+use Rattle.px_grammar.specs.declared.tree.Class.{Class}
 use Rattle.px_rules.specs.declared.breach.Breach.{Breach}
 use Rattle.px_rules.specs.declared.types.Ty.{Ty}
 use Rattle.px_rules.specs.declared.classes.FieldType.{FieldType}
 use Rattle.px_rules.specs.declared.classes.Members.{Members}
 use Rattle.px_rules.specs.declared.checked.ClassFact.{ClassFact}
 use Rattle.px_rules.specs.declared.checked.Facts.{Facts}
+use Rattle.px_rules.specs.declared.checked.Main.{Main}
+use Rattle.px_rules.specs.declared.bodies.Known.{Known}
+use Rattle.px_rules.specs.declared.home.Home.{Home}
 use Rattle.px_rules.specs.declared.checked.Checked.{Checked}
 use Rattle.px_rules.specs.declared.error.CheckError.{CheckError}
 use Rattle.px_rules.specs.declared.error.CheckError.TheVariants.{TypeFault}
@@ -39,16 +43,20 @@ type_in f = f.ty
 abbrev pub class_known : Members → ClassFact
 class_known ms = record { fields = map type_in ms.fields.values }
 
+-- the methods of all classes, and what is in them
+abbrev pub known_in : Home → List Class → Known
+known_in home classes =
+    let found = all_found home classes in
+    record { nodes = sited 1 found.nodes; methods = found.methods }
+
+abbrev pub with_known : Known → List ClassFact → Main → Facts
+with_known known classes main = record { nodes = known.nodes; classes = classes; methods = known.methods; main = main }
+
+abbrev pub facts_in : Home → List Class → Facts
+facts_in home classes = with_known (known_in home classes) (map class_known home.classes.members) (main_from home.classes.numbers home.firsts 0 classes)
+
 unfoldable pub facts_of : Program → Facts
-facts_of program =
-    let home = home_of program.classes in
-    let found = all_found home program.classes in
-    record {
-      nodes = sited 1 found.nodes;
-      classes = map class_known home.classes.members;
-      methods = found.methods;
-      main = main_from home.classes.numbers home.firsts 0 program.classes;
-    }
+facts_of program = facts_in (home_of program.classes) program.classes
 
 abbrev pub checked_of : Program → Checked
 checked_of program = record { program = program; facts = facts_of program }

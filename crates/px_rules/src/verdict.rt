@@ -5,7 +5,7 @@ ghost use Rattle.px_rules.specs.Bodies as bodies;
 ghost use Rattle.px_rules.specs.Checked as specs;
 
 use crate::bodies::Known;
-use crate::checked::{Checked, ClassFact, Facts};
+use crate::checked::{Checked, ClassFact, Facts, Main};
 use crate::classes::{FieldType, Members};
 use crate::declare::declare_classes;
 use crate::error::CheckError;
@@ -47,27 +47,49 @@ fn line_at(tokens: &[Token], token: u32) -> u32
     }
 }
 
+#[tactic(auto, unfolding(crate::specs::Checked::facts_of))]
 fn find_facts(alloc: Global, program: &Program) -> Result<Facts, AllocError>
     ensures { IfOk result (λ facts. facts ≡ specs.facts_of program.now) }
 {
-    let mut home = find_home(alloc, program.classes.as_slice())?;
+    let classes = program.classes.as_slice();
+    let home = find_home(alloc, classes)?;
+    let main = find_main(
+        alloc,
+        &home.classes.numbers,
+        home.firsts.as_slice(),
+        classes,
+    )?;
+    let class_facts = class_facts(alloc, home.classes.members.as_slice())?;
+    let known = find_known(alloc, home, classes)?;
+    Ok(with_known(known, class_facts, main))
+}
+
+fn with_known(known: Known, classes: Items<ClassFact>, main: Main) -> Facts
+    ensures { result ≡ specs.with_known known classes main }
+{
+    let Known { nodes, methods } = known;
+    Facts {
+        nodes,
+        classes,
+        methods,
+        main,
+    }
+}
+
+// What is in the methods of all classes, from the first on.
+fn find_known(alloc: Global, home: Home, classes: &[Class]) -> Result<Known, AllocError>
+    requires { home.this ≡ 0 }
+    ensures { IfOk result (λ known. known ≡ specs.known_in home classes.now) }
+{
+    let mut home = home;
     let mut known = Known {
         nodes: Items::new(alloc),
         methods: Items::new(alloc),
     };
-    home.all_bodies(alloc, &mut known, program.classes.as_slice())?;
+    home.all_bodies(alloc, &mut known, classes)?;
     let Known { nodes, methods } = known;
-    Ok(Facts {
-        nodes: with_sites(alloc, nodes.as_slice())?,
-        classes: class_facts(alloc, home.classes.members.as_slice())?,
-        methods,
-        main: find_main(
-            alloc,
-            &home.classes.numbers,
-            home.firsts.as_slice(),
-            program.classes.as_slice(),
-        )?,
-    })
+    let nodes = with_sites(alloc, nodes.as_slice())?;
+    Ok(Known { nodes, methods })
 }
 
 // The classes, and the first of them.

@@ -55,8 +55,8 @@ statement-returns-in_ok-statement-in-For-3-clause-scope t c =
     c.leave.ensures
     ∙ (λ i. left (c.len-count.ensures i) c.statement-in-For-3.new.scope)
     ∙ ap (closed c.args.scope.now)
-      (for_scopes (told s c.get-in-For.result.now) (told s c.get-in-For-2.result.now) (told s c.get-in-For-3.result.now) c.args.scope.now c.statement-in-For.new.scope c.statement-in-For-2.new.scope c.statement-in-For-3.new.scope
-      c.in_ok-statement-in-For.ensures.scope c.in_ok-statement-in-For-2.ensures.scope c.in_ok-statement-in-For-3.ensures.scope)
+    (for_scopes (told s c.get-in-For.result.now) (told s c.get-in-For-2.result.now) (told s c.get-in-For-3.result.now) c.args.scope.now c.statement-in-For.new.scope c.statement-in-For-2.new.scope c.statement-in-For-3.new.scope
+    c.in_ok-statement-in-For.ensures.scope c.in_ok-statement-in-For-2.ensures.scope c.in_ok-statement-in-For-3.ensures.scope)
     ∙ ap (λ (x : Told). x.scope) (sym (told_for s c.args.s.now c.args.scope.now _ _ _ _ _ _ _ c.in-For.is c.get-in-For.ensures c.get-in-For-2.ensures c.get-in-For-3.ensures))
 
 pub statement-returns-in_ok-statement-in-For-3-clause-facts : goal.statement-returns-in_ok-statement-in-For-3-clause-facts
