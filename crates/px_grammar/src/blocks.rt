@@ -27,7 +27,13 @@ impl Source<'_> {
     // Behind the first part of an `if`.
     #[cycle(block)]
     #[tactic(auto, unfolding(crate::specs::Reading::otherwise))]
-    fn otherwise(&self, tokens: &mut Tokens<'_>, x: Lexeme, test: Expr, yes: Boxed<Stmt>) -> Result<Stmt, ReadError>
+    fn otherwise(
+        &self,
+        tokens: &mut Tokens<'_>,
+        x: Lexeme,
+        test: Expr,
+        yes: Boxed<Stmt>,
+    ) -> Result<Stmt, ReadError>
         ensures gives { (n : ℕ) → length tokens.old.left.now ≤ n → Gives (spec.otherwise (spec.statement self.now.bytes.now n) x test yes tokens.old.left.now) result tokens.new.left.now }
         ensures fewer { OnOk result (length tokens.new.left.now < length tokens.old.left.now) }
     {

@@ -97,7 +97,11 @@ impl Source<'_> {
     }
 
     // The columns behind the first, with it.
-    fn more_columns(&self, tokens: &mut Tokens<'_>, first: Column) -> Result<Items<Column>, ReadError>
+    fn more_columns(
+        &self,
+        tokens: &mut Tokens<'_>,
+        first: Column,
+    ) -> Result<Items<Column>, ReadError>
         ensures gives { Gives (spec.all_while (spec.sees Word.Comma) (spec.next_column self.now.bytes.now) (first ∷ []) tokens.old.left.now) result tokens.new.left.now }
         ensures fewer { OnOk result (length tokens.new.left.now ≤ length tokens.old.left.now) }
     {

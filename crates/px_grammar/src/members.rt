@@ -150,7 +150,14 @@ impl Source<'_> {
 
     // Behind the name of a method.
     #[tactic(auto, unfolding(crate::specs::Reading::method))]
-    fn method(&self, tokens: &mut Tokens<'_>, from: u32, access: Access, gives: Option<TypeName>, name: Lexeme) -> Result<Member, ReadError>
+    fn method(
+        &self,
+        tokens: &mut Tokens<'_>,
+        from: u32,
+        access: Access,
+        gives: Option<TypeName>,
+        name: Lexeme,
+    ) -> Result<Member, ReadError>
         ensures gives { Gives (spec.method self.now.bytes.now from access gives name tokens.old.left.now) result tokens.new.left.now }
         ensures fewer { OnOk result (length tokens.new.left.now < length tokens.old.left.now) }
     {
@@ -170,7 +177,13 @@ impl Source<'_> {
     }
 
     #[tactic(auto, unfolding(crate::specs::Reading::field))]
-    fn field_declaration(&self, tokens: &mut Tokens<'_>, access: Access, ty: TypeName, name: Lexeme) -> Result<Member, ReadError>
+    fn field_declaration(
+        &self,
+        tokens: &mut Tokens<'_>,
+        access: Access,
+        ty: TypeName,
+        name: Lexeme,
+    ) -> Result<Member, ReadError>
         ensures gives { Gives (spec.field self.now.bytes.now access ty name tokens.old.left.now) result tokens.new.left.now }
         ensures fewer { OnOk result (length tokens.new.left.now < length tokens.old.left.now) }
     {
@@ -179,7 +192,14 @@ impl Source<'_> {
     }
 
     // Behind the name of a member.
-    fn named_member(&self, tokens: &mut Tokens<'_>, from: u32, access: Access, gives: Option<TypeName>, name: Lexeme) -> Result<Member, ReadError>
+    fn named_member(
+        &self,
+        tokens: &mut Tokens<'_>,
+        from: u32,
+        access: Access,
+        gives: Option<TypeName>,
+        name: Lexeme,
+    ) -> Result<Member, ReadError>
         ensures gives { Gives (spec.member_on self.now.bytes.now from access gives name tokens.old.left.now) result tokens.new.left.now }
         ensures fewer { OnOk result (length tokens.new.left.now < length tokens.old.left.now) }
     {
