@@ -24,5 +24,9 @@ pub mod TreeStatements
 pub mod TreePrograms
 pub mod TreeOf
 pub mod Lexing
+pub mod Sizes
+pub mod Numbers
+pub mod Repeats
 pub mod Leading
 pub mod ReadTurns
+pub mod Parsing

@@ -1,26 +1,34 @@
 //! The grammar of the whole language: words, trees, which words spell which tree, and where a text stops being the beginning of a program.
 #![tactic(auto)]
 
+mod blocks;
+mod classes;
 mod error;
 mod expressions;
 mod heads;
 pub mod law;
 mod lexeme;
+mod locals;
+mod members;
 mod nodes;
+mod numbering;
 mod program;
 mod roles;
 mod signs;
 mod simple;
 mod source;
+mod statements;
 mod tokens;
 pub mod tree;
 mod types;
+mod unbuilt;
 mod whole;
 mod word;
 
 pub use error::{ParseError, ReadError};
 pub use lexeme::{Lexeme, Word};
-pub use program::refused_line;
+pub use program::{line_at, parse, refused_line};
+pub use unbuilt::first_unbuilt;
 pub use whole::Declared;
 pub use word::lexemes;
 

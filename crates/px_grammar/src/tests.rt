@@ -1,4 +1,21 @@
+ghost use Rattle.std.specs.Prelude.{◌<◌, ◌^◌, length};
+
 mod expressions;
 mod nesting;
 mod places;
 mod prefixes;
+mod trees;
+
+use crate::{ParseError, parse};
+use std::alloc::{AllocError, Global};
+
+// The line at which `parse` refuses a text; none where it finds a program.
+fn parse_line(alloc: Global, text: &[u8]) -> Result<Option<u32>, AllocError>
+    requires { length text.now < 2 ^ 31 }
+{
+    match parse(alloc, text) {
+        Ok(_) => Ok(None),
+        Err(ParseError::Syntax { line }) => Ok(Some(line)),
+        Err(ParseError::NoMemory) => Err(AllocError),
+    }
+}

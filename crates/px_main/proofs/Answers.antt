@@ -23,21 +23,54 @@ use Rattle.px_job.specs.SplitJobs.{split_job_of}
 use Rattle.px_lower.specs.Programs.{lowered}
 use Rattle.px_main.specs.declared.command.Kind.{Kind}
 use Rattle.px_main.specs.declared.command.Kind.TheVariants.{Run, Solo}
-use Rattle.px_main.specs.declared.judge.Fault.{Fault}
-use Rattle.px_main.specs.Answers.{Answer, IsParsed, ungrammatical, grammatical, IsBuilt, Judges, AnswersCalls, AnswersSplit, AnswersRead, AnswersJob, AnswersProgram, IsAnswer, Allows, Fixes, FixesStatus, HasStatus, status_read, status_by, status_of_job, status_of, typed, kept, max_program, max_job}
+use Rattle.px_main.specs.declared.fault.Fault.{Fault}
+use Rattle.px_main.specs.declared.fault.ProgramCode.TheVariants.{Syntax}
+use Rattle.px_main.specs.Commands.{Command, Checks, Serves}
+use Rattle.px_main.specs.Whole.{IsFaultOf, ungrammatical, grammatical, IsBuiltWhole, JudgesWhole, fault_at, breach_fault}
+use Rattle.px_main.specs.Answers.{Answer, IsParsed, unbuilt, built, IsTaken, IsRuled, IsBuilt, Judges, AnswersCalls, AnswersSplit, AnswersRead, AnswersJob, AnswersProgram, IsAnswer, IsChecked, check_answer, Holds, AllowsCheck, AllowsBoth, FixesBoth, FixesCheck, FixesStatusBoth, FixesStatusCheck, Fixes, HasStatus, HasCheckStatus, status_read, status_by, status_of_job, status_of, typed, kept, max_program, max_job}
+use Rattle.px_grammar.specs.declared.tree.Program.{Program as WholeProgram}
+use Rattle.px_grammar.specs.Unbuilt as whole
+use Rattle.px_grammar.proofs.Programs as whole_programs
+use Rattle.px_rules.specs.Programs.{first_breach_of}
 
 abbrev Outcome : Type 0
 Outcome = Result Checked Fault
 
+-- ---- what is wrong with a text is fixed
+
+faults_once : (bytes : List ℕ) (f g : Option Fault) → IsFaultOf bytes f → IsFaultOf bytes g → f ≡ g
+faults_once bytes f g (ungrammatical l at e) (ungrammatical m also e') = e ∙ ap (λ (n : ℕ). Some (fault_at n Syntax)) (whole_programs.one_line bytes l m at also) ∙ sym e'
+faults_once bytes f g (ungrammatical l at e) (grammatical p is e') = absurd (whole_programs.no_program bytes l p at is)
+faults_once bytes f g (grammatical p is e) (ungrammatical m at e') = absurd (whole_programs.no_program bytes m p at is)
+faults_once bytes f g (grammatical p is e) (grammatical q also e') = e ∙ ap (λ (r : WholeProgram). breach_fault r (first_breach_of r)) (whole_programs.one_program bytes p q is also) ∙ sym e'
+
+built_whole_once : (bytes : List ℕ) (line : Option ℕ) (f g : Option Fault) → IsBuiltWhole bytes line f → IsBuiltWhole bytes line g → f ≡ g
+built_whole_once bytes (Some n) f g h k = h ∙ sym k
+built_whole_once bytes None f g h k = faults_once bytes f g h k
+
+judges_whole_once : (file : Option (List ℕ)) (f g : Option Fault) → JudgesWhole file f → JudgesWhole file g → f ≡ g
+judges_whole_once None f g h k = h ∙ sym k
+judges_whole_once (Some bytes) f g h k = built_whole_once bytes (whole.unbuilt_line bytes) f g h k
+
+-- ---- and so is what comes of it
+
 parsed_once : (bytes : List ℕ) (o o' : Outcome) → IsParsed bytes o → IsParsed bytes o' → o ≡ o'
-parsed_once bytes o o' (ungrammatical none e) (ungrammatical none' e') = e ∙ sym e'
-parsed_once bytes o o' (ungrammatical none e) (grammatical q also e') = absurd (none q also)
-parsed_once bytes o o' (grammatical p is e) (ungrammatical none e') = absurd (none p is)
-parsed_once bytes o o' (grammatical p is e) (grammatical q also e') = e ∙ ap (λ (r : Program). typed r (judged r)) (one_program bytes p q is also) ∙ sym e'
+parsed_once bytes o o' (unbuilt none e) (unbuilt none' e') = e ∙ sym e'
+parsed_once bytes o o' (unbuilt none e) (built q also e') = absurd (none q also)
+parsed_once bytes o o' (built p is e) (unbuilt none' e') = absurd (none' p is)
+parsed_once bytes o o' (built p is e) (built q also e') = e ∙ ap (λ (r : Program). typed r (judged r)) (one_program bytes p q is also) ∙ sym e'
+
+taken_once : (bytes : List ℕ) (f : Option Fault) (o o' : Outcome) → IsTaken bytes f o → IsTaken bytes f o' → o ≡ o'
+taken_once bytes (Some f) o o' h k = h ∙ sym k
+taken_once bytes None o o' h k = parsed_once bytes o o' h k
+
+ruled_once : (bytes : List ℕ) (o o' : Outcome) → IsRuled bytes o → IsRuled bytes o' → o ≡ o'
+ruled_once bytes o o' h k =
+    taken_once bytes k.found o o' (subst (λ (f : Option Fault). IsTaken bytes f o) (faults_once bytes h.found k.found h.is_found k.is_found) h.taken) k.taken
 
 built_once : (bytes : List ℕ) (line : Option ℕ) (o o' : Outcome) → IsBuilt bytes line o → IsBuilt bytes line o' → o ≡ o'
 built_once bytes (Some n) o o' h h' = h ∙ sym h'
-built_once bytes None o o' h h' = parsed_once bytes o o' h h'
+built_once bytes None o o' h h' = ruled_once bytes o o' h h'
 
 judges_once : (file : Option (List ℕ)) (o o' : Outcome) → Judges file o → Judges file o' → o ≡ o'
 judges_once None o o' h h' = h ∙ sym h'
@@ -110,16 +143,38 @@ answers_without kind program job job' a h five = record { outcome = h.outcome; j
 
 -- ---- as far as the files are told
 
-pub allowed : (kind : Kind) (hp hj kp kj : Option (List ℕ)) (a : Answer) → IfSome hp (λ file. kept max_program file ≡ kp) → IfSome hj (λ file. kept max_job file ≡ kj) → IsAnswer kind kp kj a → Allows kind hp hj a
+pub allowed : (kind : Kind) (hp hj kp kj : Option (List ℕ)) (a : Answer) → IfSome hp (λ file. kept max_program file ≡ kp) → IfSome hj (λ file. kept max_job file ≡ kj) → IsAnswer kind kp kj a → AllowsBoth kind hp hj a
 allowed kind None hj kp kj a p j h = tt
 allowed kind (Some program) None kp kj a p j h = λ five. subst (λ (k : Option (List ℕ)). IsAnswer kind k (kept max_job []) a) (sym p) (answers_without kind kp kj (kept max_job []) a h five)
 allowed kind (Some program) (Some job) kp kj a p j h = subst (λ (k : Option (List ℕ)). IsAnswer kind k (kept max_job job) a) (sym p) (subst (λ (k : Option (List ℕ)). IsAnswer kind kp k a) (sym j) h)
 
+both_fix_once : (kind : Kind) (hp hj : Option (List ℕ)) (a b : Answer) → FixesBoth kind hp hj a → FixesBoth kind hp hj b → a ≡ b
+both_fix_once kind None hj a b f g = absurd f
+both_fix_once kind (Some program) None a b f g = one_answer kind (kept max_program program) (kept max_job []) a b f.1 g.1
+both_fix_once kind (Some program) (Some job) a b f g = one_answer kind (kept max_program program) (kept max_job job) a b f g
+
+-- ---- of a program alone
+
+one_check : (program : Option (List ℕ)) (a b : Answer) → IsChecked program a → IsChecked program b → a ≡ b
+one_check program a b h k = h.is ∙ ap check_answer (judges_whole_once program h.found k.found h.judges k.judges) ∙ sym k.is
+
+check_fixes_once : (hp : Option (List ℕ)) (a b : Answer) → FixesCheck hp a → FixesCheck hp b → a ≡ b
+check_fixes_once None a b f g = absurd f
+check_fixes_once (Some program) a b f g = one_check (kept max_program program) a b f g
+
+pub check_allowed : (hp kp : Option (List ℕ)) (a : Answer) → IfSome hp (λ file. kept max_program file ≡ kp) → IsChecked kp a → AllowsCheck hp a
+check_allowed None kp a p h = tt
+check_allowed (Some program) kp a p h = subst (λ (k : Option (List ℕ)). IsChecked k a) (sym p) h
+
+pub check_fixed : (hp kp : Option (List ℕ)) (a : Answer) (n : ℕ) → IfSome hp (λ file. kept max_program file ≡ kp) → IsChecked kp a → FixesStatusCheck hp n → n ≡ a.0
+check_fixed None kp a n p h f = absurd f
+check_fixed (Some program) kp a n p h f =
+    sym f.is ∙ ap (λ (x : Answer). x.0) (one_check kp f.answer a (subst (λ (k : Option (List ℕ)). IsChecked k f.answer) p f.is_answer) h)
+
 -- the files fix one answer at most
-pub fixes_once : (kind : Kind) (hp hj : Option (List ℕ)) (a b : Answer) → Fixes kind hp hj a → Fixes kind hp hj b → a ≡ b
-fixes_once kind None hj a b f g = absurd f
-fixes_once kind (Some program) None a b f g = one_answer kind (kept max_program program) (kept max_job []) a b f.1 g.1
-fixes_once kind (Some program) (Some job) a b f g = one_answer kind (kept max_program program) (kept max_job job) a b f g
+pub fixes_once : (c : Command) (holds : Holds) (a b : Answer) → Fixes c holds a → Fixes c holds b → a ≡ b
+fixes_once (Checks program) holds a b f g = check_fixes_once (holds program) a b f g
+fixes_once (Serves kind program job) holds a b f g = both_fix_once kind (holds program) (holds job) a b f g
 
 -- ---- the status alone
 
@@ -161,7 +216,7 @@ same_status : (kind : Kind) (program job : Option (List ℕ)) (a : Answer) (n : 
 same_status kind program job a n h k =
     sym k.is ∙ ap (λ (o : Outcome). status_of kind o job) (judges_once program k.outcome h.outcome k.judges h.judges) ∙ sym (answer_status kind h.outcome job a h.answers)
 
-pub fixed : (kind : Kind) (hp hj kp kj : Option (List ℕ)) (a : Answer) (n : ℕ) → IfSome hp (λ file. kept max_program file ≡ kp) → IfSome hj (λ file. kept max_job file ≡ kj) → IsAnswer kind kp kj a → FixesStatus kind hp hj n → n ≡ a.0
+pub fixed : (kind : Kind) (hp hj kp kj : Option (List ℕ)) (a : Answer) (n : ℕ) → IfSome hp (λ file. kept max_program file ≡ kp) → IfSome hj (λ file. kept max_job file ≡ kj) → IsAnswer kind kp kj a → FixesStatusBoth kind hp hj n → n ≡ a.0
 fixed kind None hj kp kj a n p j h f = absurd f
 fixed kind (Some program) None kp kj a n p j h f =
     let k : HasStatus kind kp (kept max_job []) n = subst (λ (q : Option (List ℕ)). HasStatus kind q (kept max_job []) n) p f.1 in

@@ -6,3 +6,4 @@ pub mod Callable
 pub mod BySource
 pub mod Planned
 pub mod Reported
+pub mod Faults

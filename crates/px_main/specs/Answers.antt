@@ -1,5 +1,5 @@
 -- What a command answers over the bytes of its files: a status, and all that is to be written with it.
-use Rattle.std.specs.Prelude.{◌≡◌, ℕ, List, [], ◌∷◌, length, Option, Some, None, Result, Ok, Err, codes, decimal, nat_lt, if◌then◌else◌}
+use Rattle.std.specs.Prelude.{◌≡◌, ℕ, List, [], ◌∷◌, ◌++◌, length, Option, Some, None, Result, Ok, Err, codes, decimal, nat_lt, if◌then◌else◌}
 use Rattle.px_lex.specs.declared.tree.Program.{Program}
 use Rattle.px_lex.specs.Unbuilt.{unbuilt_line}
 use Rattle.px_parse.specs.Programs.{IsProgram}
@@ -17,9 +17,11 @@ use Rattle.px_job.specs.SplitJobs.{split_job_of}
 use Rattle.px_report.specs.Lines.{line}
 use Rattle.px_main.specs.declared.command.Kind.{Kind}
 use Rattle.px_main.specs.declared.command.Kind.TheVariants.{Run, Solo}
-use Rattle.px_main.specs.declared.judge.Fault.{Fault}
-use Rattle.px_main.specs.declared.judge.ProgramCode.{ProgramCode}
-use Rattle.px_main.specs.declared.judge.ProgramCode.TheVariants.{TooLong, Syntax, Later}
+use Rattle.px_main.specs.declared.fault.Fault.{Fault}
+use Rattle.px_main.specs.declared.fault.ProgramCode.{ProgramCode}
+use Rattle.px_main.specs.declared.fault.ProgramCode.TheVariants.{TooLong, Syntax, Rule, Later}
+use Rattle.px_main.specs.Commands.{Command, Checks, Serves}
+use Rattle.px_main.specs.Whole.{fault_at, IsFaultOf, JudgesWhole}
 use Rattle.px_main.specs.Run.{run_of, text_of}
 use Rattle.px_main.specs.Solo.{IsReport}
 
@@ -35,27 +37,37 @@ kept limit file = if nat_lt limit (length file) then None else Some file
 
 -- ---- the program
 
-abbrev pub fault : ℕ → ProgramCode → Result Checked Fault
-fault number code = Err (record { line = number; code = code })
+abbrev pub refused_at : ℕ → ProgramCode → Result Checked Fault
+refused_at number code = Err (fault_at number code)
 
--- a program that breaks a rule of types has a form that isn't built yet
+-- what the checker of today's language knows of the program; where it knows nothing, a form in it isn't built yet
 abbrev pub typed : Program → Option Known → Result Checked Fault
-typed program None = fault 0 Later
+typed program None = refused_at 0 Later
 typed program (Some known) = Ok (record { program = program; facts = known.facts; entries = known.entries })
 
--- A text without unbuilt forms is either no program, or it is the one program that the grammar gives it.
+-- A text by the grammar of today's language, which gives it one program at most.
 pub data IsParsed (bytes : List ℕ) (outcome : Result Checked Fault) : Type 0 where
-  ungrammatical : ((p : Program) → IsProgram bytes p → ⊥) → outcome ≡ fault 0 Syntax → IsParsed bytes outcome
-  grammatical : (p : Program) → IsProgram bytes p → outcome ≡ typed p (judged p) → IsParsed bytes outcome
+  unbuilt : ((p : Program) → IsProgram bytes p → ⊥) → outcome ≡ refused_at 0 Later → IsParsed bytes outcome
+  built : (p : Program) → IsProgram bytes p → outcome ≡ typed p (judged p) → IsParsed bytes outcome
+
+abbrev pub IsTaken : List ℕ → Option Fault → Result Checked Fault → Type 0
+IsTaken bytes (Some fault) outcome = outcome ≡ Err fault
+IsTaken bytes None outcome = IsParsed bytes outcome
+
+-- what is wrong with the text by the rules of the whole language, and what comes of it
+pub record IsRuled (bytes : List ℕ) (outcome : Result Checked Fault) : Type 0 where
+  pub found : Option Fault
+  pub is_found : IsFaultOf bytes found
+  pub taken : IsTaken bytes found outcome
 
 abbrev pub IsBuilt : List ℕ → Option ℕ → Result Checked Fault → Type 0
-IsBuilt bytes (Some number) outcome = outcome ≡ fault number Later
-IsBuilt bytes None outcome = IsParsed bytes outcome
+IsBuilt bytes (Some number) outcome = outcome ≡ refused_at number Later
+IsBuilt bytes None outcome = IsRuled bytes outcome
 
--- What comes of a program file, of which nothing is kept where it is too long. The first of these applies:
--- it is too long; a form in it isn't built yet; it is no program; it breaks a rule of types; it is accepted.
+-- What comes of a program file that is served, of which nothing is kept where it is too long. The first of these applies:
+-- it is too long; a form in it isn't built yet; there is a fault in its text; it is accepted.
 abbrev pub Judges : Option (List ℕ) → Result Checked Fault → Type 0
-Judges None outcome = outcome ≡ fault 0 TooLong
+Judges None outcome = outcome ≡ refused_at 0 TooLong
 Judges (Some bytes) outcome = IsBuilt bytes (unbuilt_line bytes) outcome
 
 -- ---- the answer
@@ -66,6 +78,7 @@ Answer = ℕ × List ℕ
 abbrev pub program_code : ProgramCode → List ℕ
 program_code TooLong = codes "TooLong"
 program_code Syntax = codes "Syntax"
+program_code (Rule number) = codes "T" ++ decimal number
 program_code Later = codes "Later"
 
 abbrev pub job_code : JobCode → List ℕ
@@ -122,17 +135,17 @@ pub record IsAnswer (kind : Kind) (program job : Option (List ℕ)) (a : Answer)
 abbrev pub Answers : Kind → List ℕ → List ℕ → Answer → Type 0
 Answers kind program job a = IsAnswer kind (kept max_program program) (kept max_job job) a
 
--- What the files allow as an answer, as far as the shelf tells them. A program that is refused needs no job.
-abbrev pub Allows : Kind → Option (List ℕ) → Option (List ℕ) → Answer → Type 0
-Allows kind None job a = Unit {0}
-Allows kind (Some program) None a = a.0 ≡ 5 → Answers kind program [] a
-Allows kind (Some program) (Some job) a = Answers kind program job a
+-- What both files allow as an answer, as far as the shelf tells them. A program that is refused needs no job.
+abbrev pub AllowsBoth : Kind → Option (List ℕ) → Option (List ℕ) → Answer → Type 0
+AllowsBoth kind None job a = Unit {0}
+AllowsBoth kind (Some program) None a = a.0 ≡ 5 → Answers kind program [] a
+AllowsBoth kind (Some program) (Some job) a = Answers kind program job a
 
--- what the files fix as the answer, as far as the shelf tells them
-abbrev pub Fixes : Kind → Option (List ℕ) → Option (List ℕ) → Answer → Type 0
-Fixes kind None job a = ⊥
-Fixes kind (Some program) None a = (a.0 ≡ 5) × Answers kind program [] a
-Fixes kind (Some program) (Some job) a = Answers kind program job a
+-- what both files fix as the answer, as far as the shelf tells them
+abbrev pub FixesBoth : Kind → Option (List ℕ) → Option (List ℕ) → Answer → Type 0
+FixesBoth kind None job a = ⊥
+FixesBoth kind (Some program) None a = (a.0 ≡ 5) × Answers kind program [] a
+FixesBoth kind (Some program) (Some job) a = Answers kind program job a
 
 -- ---- the status alone
 
@@ -162,8 +175,57 @@ pub record HasStatus (kind : Kind) (program job : Option (List ℕ)) (n : ℕ) :
 abbrev pub Statuses : Kind → List ℕ → List ℕ → ℕ → Type 0
 Statuses kind program job n = HasStatus kind (kept max_program program) (kept max_job job) n
 
--- what the files fix as the status: 0 where both are accepted
-abbrev pub FixesStatus : Kind → Option (List ℕ) → Option (List ℕ) → ℕ → Type 0
-FixesStatus kind None job n = ⊥
-FixesStatus kind (Some program) None n = (n ≡ 5) × Statuses kind program [] n
-FixesStatus kind (Some program) (Some job) n = Statuses kind program job n
+-- what both files fix as the status: 0 where both are accepted
+abbrev pub FixesStatusBoth : Kind → Option (List ℕ) → Option (List ℕ) → ℕ → Type 0
+FixesStatusBoth kind None job n = ⊥
+FixesStatusBoth kind (Some program) None n = (n ≡ 5) × Statuses kind program [] n
+FixesStatusBoth kind (Some program) (Some job) n = Statuses kind program job n
+
+-- ---- a program alone
+
+abbrev pub check_answer : Option Fault → Answer
+check_answer None = (0, line (codes "ok" ∷ []))
+check_answer (Some f) = refused_program f
+
+-- `a` is the answer to `check` over what was kept of its file
+pub record IsChecked (program : Option (List ℕ)) (a : Answer) : Type 0 where
+  pub found : Option Fault
+  pub judges : JudgesWhole program found
+  pub is : a ≡ check_answer found
+
+abbrev pub AllowsCheck : Option (List ℕ) → Answer → Type 0
+AllowsCheck None a = Unit {0}
+AllowsCheck (Some program) a = IsChecked (kept max_program program) a
+
+abbrev pub FixesCheck : Option (List ℕ) → Answer → Type 0
+FixesCheck None a = ⊥
+FixesCheck (Some program) a = IsChecked (kept max_program program) a
+
+pub record HasCheckStatus (program : List ℕ) (n : ℕ) : Type 0 where
+  pub answer : Answer
+  pub is_answer : IsChecked (kept max_program program) answer
+  pub is : answer.0 ≡ n
+
+abbrev pub FixesStatusCheck : Option (List ℕ) → ℕ → Type 0
+FixesStatusCheck None n = ⊥
+FixesStatusCheck (Some program) n = HasCheckStatus program n
+
+-- ---- commands, by what a shelf holds, as far as it tells
+
+abbrev pub Holds : Type 0
+Holds = List ℕ → Option (List ℕ)
+
+-- the files allow this answer
+abbrev pub Allows : Command → Holds → Answer → Type 0
+Allows (Checks program) holds = AllowsCheck (holds program)
+Allows (Serves kind program job) holds = AllowsBoth kind (holds program) (holds job)
+
+-- they fix it
+abbrev pub Fixes : Command → Holds → Answer → Type 0
+Fixes (Checks program) holds = FixesCheck (holds program)
+Fixes (Serves kind program job) holds = FixesBoth kind (holds program) (holds job)
+
+-- they fix this status
+abbrev pub FixesStatus : Command → Holds → ℕ → Type 0
+FixesStatus (Checks program) holds = FixesStatusCheck (holds program)
+FixesStatus (Serves kind program job) holds = FixesStatusBoth kind (holds program) (holds job)

@@ -1,5 +1,6 @@
 pub mod Commands
 pub mod Run
 pub mod Solo
+pub mod Whole
 pub mod Answers
 pub mod Ends

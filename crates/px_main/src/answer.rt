@@ -5,12 +5,14 @@ ghost use Rattle.px_lower.specs.Programs.{lowered};
 ghost use Rattle.px_lower.specs.WellFormed.{IsJudged};
 ghost use Rattle.px_job.specs.Jobs.{job_of};
 ghost use Rattle.px_job.specs.SplitJobs.{split_job_of};
-ghost use Rattle.px_main.specs.Answers.{IsAnswer, AnswersCalls, AnswersSplit, AnswersJob, refused_program, refused_job, refused_by, program_code as code_of_program, job_code as code_of_job, max_program, max_job};
+ghost use Rattle.px_main.specs.Answers.{IsAnswer, IsChecked, AnswersCalls, AnswersSplit, AnswersJob, refused_program, refused_job, refused_by, program_code as code_of_program, job_code as code_of_job, max_program, max_job};
 
 use crate::command::Kind;
-use crate::judge::{Fault, ProgramCode, judge};
+use crate::fault::{Fault, ProgramCode};
+use crate::judge::judge;
 use crate::run::run;
 use crate::solo::solo;
+use crate::whole::judge_whole;
 use px_job::{JobCode, JobError, JobFault, read_job, read_split_job};
 use px_lower::lower;
 use px_report::refusal_text;
@@ -24,13 +26,14 @@ pub struct Prepared {
     pub text: Vec<u8>,
 }
 
-fn program_code(code: ProgramCode) -> &'static [u8]
-    ensures { result.now ≡ code_of_program code }
+fn program_code(alloc: Global, code: ProgramCode) -> Result<String, AllocError>
+    ensures { IfOk result (λ text. text.bytes.items ≡ code_of_program code) }
 {
     match code {
-        ProgramCode::TooLong => b"TooLong",
-        ProgramCode::Syntax => b"Syntax",
-        ProgramCode::Later => b"Later",
+        ProgramCode::TooLong => format!(in alloc; "TooLong"),
+        ProgramCode::Syntax => format!(in alloc; "Syntax"),
+        ProgramCode::Rule(number) => format!(in alloc; "T{number}"),
+        ProgramCode::Later => format!(in alloc; "Later"),
     }
 }
 
@@ -55,7 +58,8 @@ fn job_code(code: JobCode) -> &'static [u8]
 fn program_refused(alloc: Global, fault: Fault) -> Result<Prepared, AllocError>
     ensures { IfOk result (λ a. (a.status, a.text.items) ≡ refused_program fault) }
 {
-    let text = refusal_text(alloc, b"program", fault.line, program_code(fault.code))?;
+    let code = program_code(alloc, fault.code)?;
+    let text = refusal_text(alloc, b"program", fault.line, code.as_bytes())?;
     Ok(Prepared { status: 5, text })
 }
 
@@ -138,5 +142,19 @@ pub fn answer(
     match judge(alloc, program)? {
         Ok(checked) => answer_job(alloc, kind, &checked, job),
         Err(fault) => program_refused(alloc, fault),
+    }
+}
+
+/// The answer to `check` over what was kept of its file.
+pub fn check_answer(alloc: Global, program: &Option<Vec<u8>>) -> Result<Prepared, AllocError>
+    requires { IfSome program.now (λ bytes. length bytes.items ≤ max_program) }
+    ensures { IfOk result (λ a. IsChecked (option_map (λ v. v.items) program.now) (a.status, a.text.items)) }
+{
+    match judge_whole(alloc, program)? {
+        None => Ok(Prepared {
+            status: 0,
+            text: Vec::from_slice(alloc, b"ok\n")?,
+        }),
+        Some(fault) => program_refused(alloc, fault),
     }
 }

@@ -13,12 +13,19 @@ pub enum Kind {
     Solo,
 }
 
-/// A command, and the names of its two files.
+/// A command, and the names of its files.
 #[derive(Clone, Copy)]
-pub struct Command<'a> {
-    pub kind: Kind,
-    pub program: &'a str,
-    pub job: &'a str,
+pub enum Command<'a> {
+    /// A program is checked.
+    Check {
+        program: &'a str,
+    },
+    /// The calls of a job are served.
+    Serve {
+        kind: Kind,
+        program: &'a str,
+        job: &'a str,
+    },
 }
 
 fn is_text(a: &str, b: &str) -> bool
@@ -44,12 +51,18 @@ pub fn read_command<'a>(words: &[&'a str]) -> Option<Command<'a>>
     ensures { command_of (map (λ w. w.now) words.now) ≡ option_map told_by result }
 {
     match words {
+        [word, program] => {
+            if !is_text(word, "check") || program.is_empty() {
+                return None;
+            }
+            Some(Command::Check { program })
+        }
         [word, program, job] => {
             let kind = kind_of(word)?;
             if program.is_empty() || job.is_empty() {
                 return None;
             }
-            Some(Command { kind, program, job })
+            Some(Command::Serve { kind, program, job })
         }
         _ => None,
     }

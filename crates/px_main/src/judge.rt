@@ -2,52 +2,46 @@
 ghost use Rattle.std.specs.Prelude.{◌≡◌, ◌≤◌, length, IfSome, IfOk};
 ghost use Rattle.std.specs.Option.{option_map};
 ghost use Rattle.px_lower.specs.WellFormed.{IsJudged};
-ghost use Rattle.px_main.specs.Answers.{IsParsed, Judges, max_program};
+ghost use Rattle.px_main.specs.Answers.{IsParsed, IsRuled, Judges, max_program};
 
+use crate::fault::{Fault, ProgramCode};
+use crate::whole::first_fault;
 use px_lex::first_unbuilt;
 use px_parse::{ParseError, parse};
 use px_types::{CheckError, Checked, check};
 use std::alloc::{AllocError, Global};
 
-/// Why a program is refused.
-#[derive(Clone, Copy, Debug, PartialEq, Eq)]
-pub enum ProgramCode {
-    TooLong,
-    /// It is outside the grammar.
-    Syntax,
-    /// It has a form that isn't built yet.
-    Later,
-}
-
-/// A line, from 1, or 0 for the whole file, and why it is refused.
-#[derive(Clone, Copy, Debug, PartialEq, Eq)]
-pub struct Fault {
-    pub line: u32,
-    pub code: ProgramCode,
-}
-
-// A program without forms that aren't built yet.
+// What the checker of today's language makes of a text.
 fn parsed_program(alloc: Global, bytes: &[u8]) -> Result<Result<Checked, Fault>, AllocError>
     requires { length bytes.now ≤ max_program }
     ensures judged { IfOk result (λ judged. IsParsed bytes.now judged) }
     ensures keeps { IfOk result (λ judged. IfOk judged IsJudged) }
 {
-    let line = 0;
+    let later = Fault {
+        line: 0,
+        code: ProgramCode::Later,
+    };
     let program = match parse(alloc, bytes) {
         Ok(program) => program,
-        Err(ParseError::Syntax) => {
-            let code = ProgramCode::Syntax;
-            return Ok(Err(Fault { line, code }));
-        }
+        Err(ParseError::Syntax) => return Ok(Err(later)),
         Err(ParseError::NoMemory) => return Err(AllocError),
     };
     match check(alloc, program) {
         Ok(checked) => Ok(Ok(checked)),
-        Err(CheckError::Faulty) => {
-            let code = ProgramCode::Later;
-            Ok(Err(Fault { line, code }))
-        }
+        Err(CheckError::Faulty) => Ok(Err(later)),
         Err(CheckError::NoMemory) => Err(AllocError),
+    }
+}
+
+// A text without forms that aren't built yet.
+fn ruled_program(alloc: Global, bytes: &[u8]) -> Result<Result<Checked, Fault>, AllocError>
+    requires { length bytes.now ≤ max_program }
+    ensures judged { IfOk result (λ judged. IsRuled bytes.now judged) }
+    ensures keeps { IfOk result (λ judged. IfOk judged IsJudged) }
+{
+    match first_fault(alloc, bytes)? {
+        Some(fault) => Ok(Err(fault)),
+        None => parsed_program(alloc, bytes),
     }
 }
 
@@ -67,7 +61,7 @@ pub fn judge(alloc: Global, bytes: &Option<Vec<u8>>) -> Result<Result<Checked, F
                 let code = ProgramCode::Later;
                 Ok(Err(Fault { line, code }))
             }
-            None => parsed_program(alloc, bytes.as_slice()),
+            None => ruled_program(alloc, bytes.as_slice()),
         },
     }
 }

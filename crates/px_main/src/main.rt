@@ -1,8 +1,9 @@
-//! `pyxis`: runs a program of a subset of Java over a job of calls.
+//! `pyxis`: checks a program of a subset of Java, and serves a job of calls of it.
 #![tactic(auto)]
 
 mod answer;
 mod command;
+mod fault;
 mod files;
 mod judge;
 mod members;
@@ -12,6 +13,7 @@ mod solo;
 #[cfg(test)]
 mod tests;
 mod top;
+mod whole;
 
 use crate::top::still;
 use px_outside::{StdShelf, StdSink};

@@ -1,5 +1,6 @@
 //! Whole commands over a shelf and a sink in memory.
 mod answers;
+mod check;
 mod damaged;
 mod outside;
 mod solo;
@@ -11,6 +12,8 @@ use std::process::Abort;
 use std::test::Fail;
 
 const RUN: [&str; 3] = ["run", "p", "j"];
+
+const CHECK: [&str; 2] = ["check", "p"];
 
 const SOLO: [&str; 3] = ["solo", "p", "j"];
 

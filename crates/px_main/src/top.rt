@@ -1,12 +1,12 @@
 //! The top call.
 ghost use Rattle.std.specs.Prelude.{◌≡◌, ◌≢◌, ◌↔◌, ◌≤◌, ◌⊎◌, ℕ, None, map, IfOk, IfSome};
 ghost use Rattle.px_outside.specs.Causes.{Rose};
-ghost use Rattle.px_main.specs.Commands.{command_of};
-ghost use Rattle.px_main.specs.Answers.{Allows, Fixes, FixesStatus};
+ghost use Rattle.px_main.specs.Commands.{command_of, told_by};
+ghost use Rattle.px_main.specs.Answers.{Allows, AllowsBoth, AllowsCheck, Fixes, FixesStatus, FixesStatusBoth, FixesStatusCheck};
 ghost use Rattle.px_main.specs.Ends.{Ends, TookNothing};
 
-use crate::answer::{Prepared, answer};
-use crate::command::{Command, read_command};
+use crate::answer::{Prepared, answer, check_answer};
+use crate::command::{Command, Kind, read_command};
 use crate::files::{Stop, file};
 use px_outside::{Shelf, Sink, write_all};
 use std::alloc::Global;
@@ -20,7 +20,7 @@ pub fn still<S: Shelf, K: Sink>(alloc: Global, words: &[&str], shelf: &mut S, si
     ensures usage_text { result ≡ 1 → TookNothing (K.taken sink.old) (K.taken sink.new) }
     // Else it ends as the files say.
     ensures command { IfSome (command_of (map (λ w. w.now) words.now)) (λ c.
-        Ends (Allows c.kind (S.holds shelf.old c.program) (S.holds shelf.old c.job)) (Fixes c.kind (S.holds shelf.old c.program) (S.holds shelf.old c.job)) (FixesStatus c.kind (S.holds shelf.old c.program) (S.holds shelf.old c.job)) result
+        Ends (Allows c (S.holds shelf.old)) (Fixes c (S.holds shelf.old)) (FixesStatus c (S.holds shelf.old)) result
         (S.faults shelf.old) (S.faults shelf.new) (K.faults sink.old) (K.faults sink.new) (K.taken sink.old) (K.taken sink.new)) }
 {
     match read_command(words) {
@@ -33,18 +33,51 @@ const MAX_PROGRAM: u32 = 1048576;
 
 const MAX_JOB: u32 = 16777216;
 
-fn prepare<S: Shelf>(alloc: Global, command: Command, shelf: &mut S) -> Result<Prepared, Stop>
-    ensures told { IfOk result (λ r. Allows command.entry.kind (S.holds shelf.old command.entry.program.now) (S.holds shelf.old command.entry.job.now) (r.status, r.text.items)) }
-    ensures fixed { IfOk result (λ r. (n : ℕ) → FixesStatus command.entry.kind (S.holds shelf.old command.entry.program.now) (S.holds shelf.old command.entry.job.now) n → n ≡ r.status) }
+fn prepare_check<S: Shelf>(alloc: Global, program: &str, shelf: &mut S) -> Result<Prepared, Stop>
+    ensures told { IfOk result (λ r. AllowsCheck (S.holds shelf.old program.now) (r.status, r.text.items)) }
+    ensures fixed { IfOk result (λ r. (n : ℕ) → FixesStatusCheck (S.holds shelf.old program.now) n → n ≡ r.status) }
     ensures later { S.faults shelf.old ≤ S.faults shelf.new }
     ensures fault { result ≡ Err Stop.ReadFault → Rose (S.faults shelf.old) (S.faults shelf.new) }
     ensures status { IfOk result (λ r. (r.status ≡ 0) ⊎ ((5 ≤ r.status) × (r.status ≤ 6))) }
 {
-    let program = file(alloc, shelf, command.program, MAX_PROGRAM)?;
-    let job = file(alloc, shelf, command.job, MAX_JOB)?;
-    match answer(alloc, command.kind, &program, &job) {
+    let program = file(alloc, shelf, program, MAX_PROGRAM)?;
+    match check_answer(alloc, &program) {
         Ok(answer) => Ok(answer),
         Err(_) => Err(Stop::NoMemory),
+    }
+}
+
+fn prepare_serve<S: Shelf>(
+    alloc: Global,
+    kind: Kind,
+    program: &str,
+    job: &str,
+    shelf: &mut S,
+) -> Result<Prepared, Stop>
+    ensures told { IfOk result (λ r. AllowsBoth kind (S.holds shelf.old program.now) (S.holds shelf.old job.now) (r.status, r.text.items)) }
+    ensures fixed { IfOk result (λ r. (n : ℕ) → FixesStatusBoth kind (S.holds shelf.old program.now) (S.holds shelf.old job.now) n → n ≡ r.status) }
+    ensures later { S.faults shelf.old ≤ S.faults shelf.new }
+    ensures fault { result ≡ Err Stop.ReadFault → Rose (S.faults shelf.old) (S.faults shelf.new) }
+    ensures status { IfOk result (λ r. (r.status ≡ 0) ⊎ ((5 ≤ r.status) × (r.status ≤ 6))) }
+{
+    let program = file(alloc, shelf, program, MAX_PROGRAM)?;
+    let job = file(alloc, shelf, job, MAX_JOB)?;
+    match answer(alloc, kind, &program, &job) {
+        Ok(answer) => Ok(answer),
+        Err(_) => Err(Stop::NoMemory),
+    }
+}
+
+fn prepare<S: Shelf>(alloc: Global, command: Command, shelf: &mut S) -> Result<Prepared, Stop>
+    ensures told { IfOk result (λ r. Allows (told_by command.entry) (S.holds shelf.old) (r.status, r.text.items)) }
+    ensures fixed { IfOk result (λ r. (n : ℕ) → FixesStatus (told_by command.entry) (S.holds shelf.old) n → n ≡ r.status) }
+    ensures later { S.faults shelf.old ≤ S.faults shelf.new }
+    ensures fault { result ≡ Err Stop.ReadFault → Rose (S.faults shelf.old) (S.faults shelf.new) }
+    ensures status { IfOk result (λ r. (r.status ≡ 0) ⊎ ((5 ≤ r.status) × (r.status ≤ 6))) }
+{
+    match command {
+        Command::Check { program } => prepare_check(alloc, program, shelf),
+        Command::Serve { kind, program, job } => prepare_serve(alloc, kind, program, job, shelf),
     }
 }
 
@@ -55,7 +88,7 @@ fn run_command<S: Shelf, K: Sink>(
     shelf: &mut S,
     sink: &mut K,
 ) -> u8
-    ensures ends { Ends (Allows command.entry.kind (S.holds shelf.old command.entry.program.now) (S.holds shelf.old command.entry.job.now)) (Fixes command.entry.kind (S.holds shelf.old command.entry.program.now) (S.holds shelf.old command.entry.job.now)) (FixesStatus command.entry.kind (S.holds shelf.old command.entry.program.now) (S.holds shelf.old command.entry.job.now)) result
+    ensures ends { Ends (Allows (told_by command.entry) (S.holds shelf.old)) (Fixes (told_by command.entry) (S.holds shelf.old)) (FixesStatus (told_by command.entry) (S.holds shelf.old)) result
         (S.faults shelf.old) (S.faults shelf.new) (K.faults sink.old) (K.faults sink.new) (K.taken sink.old) (K.taken sink.new) }
     ensures not_usage { result ≢ 1 }
 {

@@ -5,3 +5,5 @@ pub mod Decimals
 pub mod Mapped
 pub mod Firsts
 pub mod ForLoops
+pub mod KnownForms
+pub mod ToldForms

@@ -9,3 +9,11 @@ pub mod Expressions
 pub mod Statements
 pub mod Methods
 pub mod Programs
+pub mod Slots
+pub mod Facts
+pub mod Known
+pub mod Told
+pub mod Bodies
+pub mod Sites
+pub mod Entries
+pub mod Checked

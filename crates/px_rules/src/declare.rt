@@ -170,7 +170,7 @@ impl Members {
     }
 }
 
-fn param_types(
+pub fn param_types(
     alloc: Global,
     numbers: &Table<usize>,
     params: &[Param],

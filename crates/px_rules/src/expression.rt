@@ -4,7 +4,7 @@ ghost use Rattle.px_rules.specs.declared.types.Ty as Ty;
 ghost use Rattle.px_rules.specs.Breaches.{after};
 ghost use Rattle.px_rules.specs.Scopes as scopes;
 ghost use Rattle.px_rules.specs.Expressions as expressions;
-ghost use Rattle.px_rules.specs.Expressions.{Judges, typed, typed_form, of_type};
+ghost use Rattle.px_rules.specs.Expressions.{typed, typed_form, of_type};
 
 use crate::context::Context;
 use crate::literal::{is_in_range, literal_type};
@@ -15,7 +15,7 @@ use crate::operators::{
 };
 use crate::report::Report;
 use crate::types::{Ty, fits};
-use px_grammar::tree::{Base, Expr, ExprForm, Name, Sign};
+use px_grammar::tree::{Expr, ExprForm, Name, Sign};
 
 const MAX_TEXT: usize = 500;
 

@@ -1,28 +1,43 @@
 //! The type rules of programs, and the first breach of one.
 #![tactic(auto)]
 
+mod bodies;
 mod breach;
+mod checked;
 mod classes;
 mod context;
 mod declare;
 mod entries;
+mod error;
 mod expression;
+mod home;
+mod known;
 mod literal;
 mod locals;
+mod lookup;
+mod main_class;
 mod members;
 mod method;
 mod names;
+mod numbers;
 mod operators;
 mod program;
 mod report;
+mod scope;
+mod sites;
 mod statement;
 mod table;
+mod told;
 mod types;
 mod values;
+mod verdict;
 
 pub use breach::Breach;
+pub use checked::{Checked, ClassFact, Entry, Fact, Facts, Main, MethodFact, Named};
+pub use error::CheckError;
 pub use program::first_breach;
 pub use types::{Element, Ty};
+pub use verdict::check;
 
 #[cfg(test)]
 mod tests;

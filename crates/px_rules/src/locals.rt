@@ -1,5 +1,5 @@
 //! Parameters and locals.
-ghost use Rattle.std.specs.Prelude.{◌≡◌, ◌++◌, Some, take, is_some, OnOk};
+ghost use Rattle.std.specs.Prelude.{◌≡◌, Some, take, is_some, OnOk};
 ghost use Rattle.px_rules.specs.Scopes as scopes;
 ghost use Rattle.px_rules.specs.Names as names;
 ghost use Rattle.px_rules.specs.Breaches.{after};

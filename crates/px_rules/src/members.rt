@@ -3,6 +3,7 @@ ghost use Rattle.std.specs.Prelude.{◌≡◌};
 ghost use Rattle.std.specs.Option.{option_copied};
 ghost use Rattle.px_rules.specs.Members as members;
 ghost use Rattle.px_rules.specs.Names as names;
+ghost use Rattle.px_rules.specs.Facts as facts;
 ghost use Rattle.px_rules.specs.Breaches.{after};
 
 use crate::classes::{Classes, FieldType, Members, MethodType};
@@ -85,6 +86,26 @@ impl Classes {
     {
         match self.members(of) {
             Some(members) => members.fields.find(name).copied(),
+            None => None,
+        }
+    }
+
+    /// The place of this field among those of the type, from 0.
+    pub fn field_place(&self, of: Ty, name: &[u8]) -> Option<usize>
+        ensures { result ≡ facts.field_place of name.now self.now }
+    {
+        match self.members(of) {
+            Some(members) => members.fields.names.place(name),
+            None => None,
+        }
+    }
+
+    /// The place of this method among those of the type, from 0.
+    pub fn method_place(&self, of: Ty, name: &[u8]) -> Option<usize>
+        ensures { result ≡ facts.method_place of name.now self.now }
+    {
+        match self.members(of) {
+            Some(members) => members.methods.names.place(name),
             None => None,
         }
     }

@@ -1,6 +1,5 @@
 //! The rules of statements.
 ghost use Rattle.std.specs.Prelude.{◌≡◌, true, false, map, IfOk, OnOk};
-ghost use Rattle.px_grammar.specs.declared.tree.ExprForm.{out-ExprForm};
 ghost use Rattle.px_rules.specs.Breaches.{after};
 ghost use Rattle.px_rules.specs.Expressions.{typed, of_type};
 ghost use Rattle.std.specs.Option.{option_map};

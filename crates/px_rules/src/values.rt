@@ -31,6 +31,12 @@ impl<V: Drop> Values<V> {
         }
     }
 
+    pub fn as_slice(&self) -> &[V]
+        ensures { result.now ≡ self.now }
+    {
+        self.items.as_slice()
+    }
+
     pub fn get(&self, at: usize) -> Option<&V>
         ensures { option_copied result ≡ slice_get self.now at }
     {

@@ -1,5 +1,5 @@
 //! Texts that are programs, and texts with the line at which they are refused.
-use crate::refused_line;
+use super::parse_line;
 use std::alloc::{AllocError, Global};
 
 // A text, and the line at which it is refused; none where it is a program.
@@ -173,7 +173,7 @@ fn within(alloc: Global, before: &[u8], text: &[u8], behind: &[u8]) -> Result<Ve
 #[test]
 fn texts_are_refused_at_these_lines(rt: HostRuntime) -> Result<(), AllocError> {
     for (text, line) in TEXTS {
-        assert_eq!(rt; refused_line(rt.alloc(), text)?, line, "at {text:?}");
+        assert_eq!(rt; parse_line(rt.alloc(), text)?, line, "at {text:?}");
     }
     Ok(())
 }
@@ -181,7 +181,7 @@ fn texts_are_refused_at_these_lines(rt: HostRuntime) -> Result<(), AllocError> {
 #[test]
 fn declarations_are_refused_at_these_lines(rt: HostRuntime) -> Result<(), AllocError> {
     for (text, line) in DECLARATIONS {
-        assert_eq!(rt; refused_line(rt.alloc(), text)?, line, "at {text:?}");
+        assert_eq!(rt; parse_line(rt.alloc(), text)?, line, "at {text:?}");
     }
     Ok(())
 }
@@ -191,7 +191,7 @@ fn statements_are_refused_at_these_lines(rt: HostRuntime) -> Result<(), AllocErr
     for (text, line) in STATEMENTS {
         let whole = within(rt.alloc(), b"class C { void f() { ", text, b" } }")?;
         assert!(rt; whole.len() < 2000);
-        assert_eq!(rt; refused_line(rt.alloc(), &whole)?, line, "at {text:?}");
+        assert_eq!(rt; parse_line(rt.alloc(), &whole)?, line, "at {text:?}");
     }
     Ok(())
 }
@@ -201,7 +201,7 @@ fn values_are_refused_at_these_lines(rt: HostRuntime) -> Result<(), AllocError> 
     for (text, line) in VALUES {
         let whole = within(rt.alloc(), b"class C { int f() { return ", text, b"; } }")?;
         assert!(rt; whole.len() < 2000);
-        assert_eq!(rt; refused_line(rt.alloc(), &whole)?, line, "at {text:?}");
+        assert_eq!(rt; parse_line(rt.alloc(), &whole)?, line, "at {text:?}");
     }
     Ok(())
 }

@@ -1,4 +1,5 @@
 //! A program that uses every rule, cut off behind each of its tokens.
+use super::parse_line;
 use crate::refused_line;
 use std::alloc::AllocError;
 
@@ -19,7 +20,9 @@ fn a_text_is_refused_where_it_is_cut_off(rt: HostRuntime) -> Result<(), AllocErr
     for (at, byte) in PROGRAM.iter().enumerate() {
         if *byte == b'\n' {
             lines = lines.wrapping_add(1);
-            let line = refused_line(rt.alloc(), &PROGRAM[..at + 1])?;
+            let front = &PROGRAM[..at + 1];
+            let line = refused_line(rt.alloc(), front)?;
+            assert_eq!(rt; parse_line(rt.alloc(), front)?, line, "behind line {lines}");
             if is_end(lines) {
                 assert_eq!(rt; line, None, "behind line {lines}");
             } else {

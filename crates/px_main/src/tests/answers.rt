@@ -54,16 +54,16 @@ const PROGRAM_REFUSED: [Case; 6] = [
         "class Main { void f() { x = 1; } }",
         "",
         5,
-        "program 0 Later\n",
+        "program 1 T3\n",
     ),
     (
         "a class that isn't closed",
         "class Main {",
         "",
         5,
-        "program 0 Syntax\n",
+        "program 1 Syntax\n",
     ),
-    ("an empty file", "", "", 5, "program 0 Syntax\n"),
+    ("an empty file", "", "", 5, "program 1 Syntax\n"),
     (
         "a form that isn't built, in no program",
         "class Main {\n  while\n",
@@ -76,7 +76,7 @@ const PROGRAM_REFUSED: [Case; 6] = [
         "class Main {",
         "nothing",
         5,
-        "program 0 Syntax\n",
+        "program 1 Syntax\n",
     ),
 ];
 
@@ -167,7 +167,7 @@ fn jobs_are_refused(rt: HostRuntime) -> Result<(), Fail> {
 fn a_program_has_at_most_a_mebibyte(rt: HostRuntime) -> Result<(), Fail> {
     let alloc = rt.alloc();
     for (length, text) in [
-        (1_048_576, "program 0 Syntax\n"),
+        (1_048_576, "program 1 Syntax\n"),
         (1_048_577, "program 0 TooLong\n"),
     ] {
         let program = vec![in alloc; b' '; length]?;

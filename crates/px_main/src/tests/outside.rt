@@ -17,7 +17,7 @@ fn other_words_are_no_command(rt: HostRuntime) -> Result<(), Fail> {
         &["run", "p", "j", "x"],
         &["run", "", "j"],
         &["run", "p", ""],
-        &["check", "p"],
+        &["check", ""],
         &["check", "p", "j"],
         &["Run", "p", "j"],
         &["solo", "p"],

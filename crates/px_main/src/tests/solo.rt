@@ -114,7 +114,7 @@ const REFUSED: [Case; 9] = [
         "class Main {",
         "nothing",
         5,
-        "program 0 Syntax\n",
+        "program 1 Syntax\n",
     ),
     (
         "a load past the full one",

@@ -1,0 +1,62 @@
+-- What a check tells of a program: the line and the code of its first breach, or all that is known of it.
+use Rattle.std.specs.Prelude.{ℕ, List, Option, Some, None, map, slice_get}
+use Rattle.std.specs.Option.{option_map}
+use Rattle.px_lex.specs.declared.token.Token.{Token}
+use Rattle.px_grammar.specs.declared.tree.Program.{Program}
+use Rattle.px_grammar.specs.declared.tree.Class.{Class}
+use Rattle.px_rules.specs.declared.breach.Breach.{Breach}
+use Rattle.px_rules.specs.declared.types.Ty.{Ty}
+use Rattle.px_rules.specs.declared.classes.FieldType.{FieldType}
+use Rattle.px_rules.specs.declared.classes.Members.{Members}
+use Rattle.px_rules.specs.declared.checked.ClassFact.{ClassFact}
+use Rattle.px_rules.specs.declared.checked.Facts.{Facts}
+use Rattle.px_rules.specs.declared.checked.Main.{Main}
+use Rattle.px_rules.specs.declared.bodies.Known.{Known}
+use Rattle.px_rules.specs.declared.home.Home.{Home}
+use Rattle.px_rules.specs.declared.checked.Checked.{Checked}
+use Rattle.px_rules.specs.declared.error.CheckError.{CheckError}
+use Rattle.px_rules.specs.declared.error.CheckError.TheVariants.{TypeFault}
+use Rattle.px_rules.specs.Programs.{first_breach_of}
+use Rattle.px_rules.specs.Bodies.{home_of, all_found}
+use Rattle.px_rules.specs.Sites.{sited}
+use Rattle.px_rules.specs.Entries.{main_from}
+
+-- ---- the fault
+
+-- a tree of a text has all its tokens
+abbrev pub line_in : Option Token → ℕ
+line_in None = 0
+line_in (Some token) = token.line
+
+abbrev pub fault_at : List Token → Breach → CheckError
+fault_at tokens b = TypeFault (line_in (slice_get tokens b.token)) b.code
+
+-- the first breach, with its line
+abbrev pub fault_of : Program → Option CheckError
+fault_of program = option_map (fault_at program.tokens) (first_breach_of program)
+
+-- ---- the facts
+
+abbrev pub type_in : FieldType → Ty
+type_in f = f.ty
+
+abbrev pub class_known : Members → ClassFact
+class_known ms = record { fields = map type_in ms.fields.values }
+
+-- the methods of all classes, and what is in them
+abbrev pub known_in : Home → List Class → Known
+known_in home classes =
+    let found = all_found home classes in
+    record { nodes = sited 1 found.nodes; methods = found.methods }
+
+abbrev pub with_known : Known → List ClassFact → Main → Facts
+with_known known classes main = record { nodes = known.nodes; classes = classes; methods = known.methods; main = main }
+
+abbrev pub facts_in : Home → List Class → Facts
+facts_in home classes = with_known (known_in home classes) (map class_known home.classes.members) (main_from home.classes.numbers home.firsts 0 classes)
+
+unfoldable pub facts_of : Program → Facts
+facts_of program = facts_in (home_of program.classes) program.classes
+
+abbrev pub checked_of : Program → Checked
+checked_of program = record { program = program; facts = facts_of program }
