@@ -3,12 +3,12 @@ use Rattle.std.proofs.Common.{◌≡◌, ℕ, suc, ◌≤◌, Bool, true, not, L
 use Rattle.px_grammar.specs.declared.lexeme.Lexeme.{Lexeme}
 use Rattle.px_grammar.specs.declared.lexeme.Word.{Word}
 use Rattle.px_grammar.specs.declared.lexeme.Word.TheVariants as w
-use Rattle.px_grammar.specs.declared.tree.Access.{Access}
-use Rattle.px_grammar.specs.declared.tree.Access.TheVariants.{Plain}
-use Rattle.px_grammar.specs.declared.tree.TypeName.{TypeName}
-use Rattle.px_grammar.specs.declared.tree.Param.{Param}
-use Rattle.px_grammar.specs.declared.tree.Stmt.{Stmt}
-use Rattle.px_grammar.specs.declared.tree.Member.{Member}
+use Rattle.px_tree.specs.declared.Access.{Access}
+use Rattle.px_tree.specs.declared.Access.TheVariants.{Plain}
+use Rattle.px_tree.specs.declared.TypeName.{TypeName}
+use Rattle.px_tree.specs.declared.Param.{Param}
+use Rattle.px_tree.specs.declared.Stmt.{Stmt}
+use Rattle.px_tree.specs.declared.Member.{Member}
 use Rattle.px_grammar.specs.Lexemes.{is_name}
 use Rattle.px_grammar.specs.Words.{is_base}
 use Rattle.px_grammar.specs.Trees.{first_token, block_of, field_declaration_of, method_with}

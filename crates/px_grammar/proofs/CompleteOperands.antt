@@ -3,8 +3,8 @@ use Rattle.std.proofs.Common.{◌≡◌, ℕ, zero, suc, ◌+◌, ◌≤◌, ◌
 use Rattle.px_grammar.specs.declared.lexeme.Lexeme.{Lexeme}
 use Rattle.px_grammar.specs.declared.lexeme.Word.{Word}
 use Rattle.px_grammar.specs.declared.lexeme.Word.TheVariants as w
-use Rattle.px_grammar.specs.declared.tree.Sign.{Sign}
-use Rattle.px_grammar.specs.declared.tree.Expr.{Expr}
+use Rattle.px_tree.specs.declared.Sign.{Sign}
+use Rattle.px_tree.specs.declared.Expr.{Expr}
 use Rattle.px_grammar.specs.Words.{binary_sign, level, tightest, prefix_sign, cast_sign}
 use Rattle.px_grammar.specs.Trees.{prefix_of, binary_of}
 use Rattle.px_grammar.specs.Grammar.{Ending, SpellsExpression, SpellsPostfix}

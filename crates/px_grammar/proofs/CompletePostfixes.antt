@@ -3,7 +3,7 @@ use Rattle.std.proofs.Common.{◌≡◌, ℕ, zero, suc, ◌≤◌, ◌<◌, tru
 use Rattle.px_grammar.specs.declared.lexeme.Lexeme.{Lexeme}
 use Rattle.px_grammar.specs.declared.lexeme.Word.{Word}
 use Rattle.px_grammar.specs.declared.lexeme.Word.TheVariants as w
-use Rattle.px_grammar.specs.declared.tree.Expr.{Expr}
+use Rattle.px_tree.specs.declared.Expr.{Expr}
 use Rattle.px_grammar.specs.Lexemes.{is_name}
 use Rattle.px_grammar.specs.Trees.{variable_of, field_of, element_of, own_call_of, call_of}
 use Rattle.px_grammar.specs.Grammar as g

@@ -3,8 +3,8 @@ use Rattle.std.proofs.Common.{◌≡◌, ℕ, ◌≤◌, true, List, [], ◌∷�
 use Rattle.px_grammar.specs.declared.lexeme.Lexeme.{Lexeme}
 use Rattle.px_grammar.specs.declared.lexeme.Word.{Word}
 use Rattle.px_grammar.specs.declared.lexeme.Word.TheVariants as w
-use Rattle.px_grammar.specs.declared.tree.Expr.{Expr}
-use Rattle.px_grammar.specs.declared.tree.ExprForm.{ExprForm}
+use Rattle.px_tree.specs.declared.Expr.{Expr}
+use Rattle.px_tree.specs.declared.ExprForm.{ExprForm}
 use Rattle.px_grammar.specs.Lexemes.{is_name}
 use Rattle.px_grammar.specs.Trees.{expression_of, number_of, text_of, word_form, variable_of, group_of, object_of, array_of}
 use Rattle.px_grammar.specs.Reading.{Reads, ◌>>=◌, ◌>>◌, pure, by_test, next_word, take, expect, sees, group, own_call, named, new_object, new_array, made, worded, primary_on, primary, postfixes, postfix, expression}

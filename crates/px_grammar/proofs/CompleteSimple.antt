@@ -3,12 +3,12 @@ use Rattle.std.proofs.Common.{◌≡◌, ℕ, ◌&&◌, ◌||◌, Bool, true, fa
 use Rattle.px_grammar.specs.declared.lexeme.Lexeme.{Lexeme}
 use Rattle.px_grammar.specs.declared.lexeme.Word.{Word}
 use Rattle.px_grammar.specs.declared.lexeme.Word.TheVariants as w
-use Rattle.px_grammar.specs.declared.tree.Name.{Name as NameData}
-use Rattle.px_grammar.specs.declared.tree.Sign.{Sign}
-use Rattle.px_grammar.specs.declared.tree.Expr.{Expr}
-use Rattle.px_grammar.specs.declared.tree.ExprForm.{out-ExprForm}
-use Rattle.px_grammar.specs.declared.tree.Stmt.{Stmt}
-use Rattle.px_grammar.specs.declared.tree.TypeName.{TypeName}
+use Rattle.px_tree.specs.declared.Name.{Name as NameData}
+use Rattle.px_tree.specs.declared.Sign.{Sign}
+use Rattle.px_tree.specs.declared.Expr.{Expr}
+use Rattle.px_tree.specs.declared.ExprForm.{out-ExprForm}
+use Rattle.px_tree.specs.declared.Stmt.{Stmt}
+use Rattle.px_tree.specs.declared.TypeName.{TypeName}
 use Rattle.px_grammar.specs.Lexemes.{is_name}
 use Rattle.px_grammar.specs.Words.{compound_sign, is_primitive, is_base}
 use Rattle.px_grammar.specs.Trees.{name_of, variable_of, call_statement_of}

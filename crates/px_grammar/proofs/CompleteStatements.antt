@@ -3,8 +3,8 @@ use Rattle.std.proofs.Common.{◌≡◌, ℕ, zero, suc, ◌≤◌, ◌<◌, Boo
 use Rattle.px_grammar.specs.declared.lexeme.Lexeme.{Lexeme}
 use Rattle.px_grammar.specs.declared.lexeme.Word.{Word}
 use Rattle.px_grammar.specs.declared.lexeme.Word.TheVariants as w
-use Rattle.px_grammar.specs.declared.tree.Expr.{Expr}
-use Rattle.px_grammar.specs.declared.tree.Stmt.{Stmt}
+use Rattle.px_tree.specs.declared.Expr.{Expr}
+use Rattle.px_tree.specs.declared.Stmt.{Stmt}
 use Rattle.px_grammar.specs.Lexemes.{is_name}
 use Rattle.px_grammar.specs.Trees.{block_of, empty_of, if_of, while_of, for_of, return_of, print_of}
 use Rattle.px_grammar.specs.Grammar as g

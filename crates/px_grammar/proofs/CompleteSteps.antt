@@ -6,8 +6,8 @@ use Rattle.px_grammar.specs.contracts.lexeme.Word.{the_type}
 use Rattle.px_grammar.specs.declared.lexeme.Lexeme.{Lexeme}
 use Rattle.px_grammar.specs.declared.lexeme.Word.{Word}
 use Rattle.px_grammar.specs.declared.lexeme.Word.TheVariants as w
-use Rattle.px_grammar.specs.declared.tree.ExprForm.{ExprForm}
-use Rattle.px_grammar.specs.declared.tree.Sign.{Sign}
+use Rattle.px_tree.specs.declared.ExprForm.{ExprForm}
+use Rattle.px_tree.specs.declared.Sign.{Sign}
 use Rattle.px_grammar.specs.Lexemes.{is_name}
 use Rattle.px_grammar.specs.Words.{prefix_sign, binary_sign, is_primitive, is_base}
 use Rattle.px_grammar.specs.Trees.{word_form}

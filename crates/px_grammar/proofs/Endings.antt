@@ -4,9 +4,9 @@ use Rattle.std.proofs.lemmas.Bool.{le-leb, lt-leb}
 use Rattle.px_grammar.specs.declared.lexeme.Lexeme.{Lexeme}
 use Rattle.px_grammar.specs.declared.lexeme.Word.{Word}
 use Rattle.px_grammar.specs.declared.lexeme.Word.TheVariants as w
-use Rattle.px_grammar.specs.declared.tree.Sign.{Sign}
-use Rattle.px_grammar.specs.declared.tree.Sign.TheVariants as sign
-use Rattle.px_grammar.specs.declared.tree.Expr.{Expr}
+use Rattle.px_tree.specs.declared.Sign.{Sign}
+use Rattle.px_tree.specs.declared.Sign.TheVariants as sign
+use Rattle.px_tree.specs.declared.Expr.{Expr}
 use Rattle.px_grammar.specs.Words.{binary_sign, level}
 use Rattle.px_grammar.specs.Grammar as g
 use Rattle.px_grammar.specs.Grammar.{SpellsExpression}

@@ -1,13 +1,13 @@
 -- What spells a program has roles that are one.
 use Rattle.std.proofs.Common.{◌≡◌, ℕ, List, [], ◌∷◌, ◌++◌, Option, refl, append_assoc}
 use Rattle.px_grammar.specs.declared.lexeme.Lexeme.{Lexeme}
-use Rattle.px_grammar.specs.declared.tree.Access.{Access}
-use Rattle.px_grammar.specs.declared.tree.TypeName.{TypeName}
-use Rattle.px_grammar.specs.declared.tree.Param.{Param}
-use Rattle.px_grammar.specs.declared.tree.Member.{Member}
-use Rattle.px_grammar.specs.declared.tree.Class.{Class}
-use Rattle.px_grammar.specs.declared.tree.Column.{Column}
-use Rattle.px_grammar.specs.declared.tree.TableDecl.{TableDecl}
+use Rattle.px_tree.specs.declared.Access.{Access}
+use Rattle.px_tree.specs.declared.TypeName.{TypeName}
+use Rattle.px_tree.specs.declared.Param.{Param}
+use Rattle.px_tree.specs.declared.Member.{Member}
+use Rattle.px_tree.specs.declared.Class.{Class}
+use Rattle.px_tree.specs.declared.Column.{Column}
+use Rattle.px_tree.specs.declared.TableDecl.{TableDecl}
 use Rattle.px_accept.specs.declared.role.Role.{Role}
 use Rattle.px_accept.specs.declared.role.Role.TheVariants as r
 use Rattle.px_accept.specs.declared.role.Spelling.{Spelling}

@@ -2,7 +2,7 @@
 use Rattle.std.proofs.Common.{◌≡◌, ℕ, Bool, false, List, [], ◌∷◌, ◌++◌, append_assoc}
 use Rattle.px_grammar.specs.declared.lexeme.Lexeme.{Lexeme}
 use Rattle.px_grammar.specs.declared.lexeme.Word.TheVariants as w
-use Rattle.px_grammar.specs.declared.tree.Stmt.{Stmt}
+use Rattle.px_tree.specs.declared.Stmt.{Stmt}
 use Rattle.px_accept.specs.declared.role.Role.{Role}
 use Rattle.px_accept.specs.declared.role.Role.TheVariants as r
 use Rattle.px_accept.specs.Grammar as f

@@ -24,8 +24,6 @@ pub mod TreeStatements
 pub mod TreePrograms
 pub mod TreeOf
 pub mod Lexing
-pub mod Sizes
-pub mod Numbers
 pub mod Repeats
 pub mod Leading
 pub mod ReadTurns

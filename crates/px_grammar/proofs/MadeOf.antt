@@ -2,15 +2,15 @@
 use Rattle.std.proofs.Common.{◌≡◌, ◌≢◌, ℕ, List, [], ◌∷◌, ◌++◌, Option, refl, sym, subst}
 use Rattle.px_grammar.specs.declared.lexeme.Lexeme.{Lexeme}
 use Rattle.px_grammar.specs.declared.lexeme.Word.TheVariants as w
-use Rattle.px_grammar.specs.declared.tree.Expr.{Expr}
-use Rattle.px_grammar.specs.declared.tree.Stmt.{Stmt}
-use Rattle.px_grammar.specs.declared.tree.Access.{Access}
-use Rattle.px_grammar.specs.declared.tree.TypeName.{TypeName}
-use Rattle.px_grammar.specs.declared.tree.Param.{Param}
-use Rattle.px_grammar.specs.declared.tree.Member.{Member}
-use Rattle.px_grammar.specs.declared.tree.Class.{Class}
-use Rattle.px_grammar.specs.declared.tree.Column.{Column}
-use Rattle.px_grammar.specs.declared.tree.TableDecl.{TableDecl}
+use Rattle.px_tree.specs.declared.Expr.{Expr}
+use Rattle.px_tree.specs.declared.Stmt.{Stmt}
+use Rattle.px_tree.specs.declared.Access.{Access}
+use Rattle.px_tree.specs.declared.TypeName.{TypeName}
+use Rattle.px_tree.specs.declared.Param.{Param}
+use Rattle.px_tree.specs.declared.Member.{Member}
+use Rattle.px_tree.specs.declared.Class.{Class}
+use Rattle.px_tree.specs.declared.Column.{Column}
+use Rattle.px_tree.specs.declared.TableDecl.{TableDecl}
 use Rattle.px_accept.specs.declared.role.Role.{Role}
 use Rattle.px_accept.specs.Grammar as f
 use Rattle.px_accept.specs.Grammar.{Form}

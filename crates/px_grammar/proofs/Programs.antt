@@ -7,9 +7,9 @@ use Rattle.px_accept.specs.Place as accept
 use Rattle.px_grammar.specs.Roles.{roles_of}
 use Rattle.px_lex.specs.Cutting.{tokens_of}
 use Rattle.px_grammar.specs.Lexemes.{lexemes_of}
-use Rattle.px_grammar.specs.declared.tree.Program.{Program}
+use Rattle.px_tree.specs.declared.Program.{Program}
 use Rattle.px_grammar.specs.declared.whole.Declared.{Declared}
-use Rattle.px_grammar.specs.Numbering.{numbered_classes}
+use Rattle.px_tree.specs.Numbering.{numbered_classes}
 use Rattle.px_grammar.specs.Places.{IsRefusedAt, line_at}
 use Rattle.px_grammar.specs.Programs.{IsProgram, IsProgramText}
 use Rattle.px_grammar.proofs.CompletePrograms.{one_tree}

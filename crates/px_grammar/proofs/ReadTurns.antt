@@ -5,8 +5,8 @@ use Rattle.std.specs.Result.{IsErrAnd}
 use Rattle.px_grammar.specs.declared.lexeme.Word.{Word}
 use Rattle.px_grammar.specs.declared.lexeme.Word.TheVariants as w
 use Rattle.px_grammar.specs.declared.lexeme.Lexeme.{Lexeme}
-use Rattle.px_grammar.specs.declared.tree.Expr.{Expr}
-use Rattle.px_grammar.specs.declared.tree.Stmt.{Stmt}
+use Rattle.px_tree.specs.declared.Expr.{Expr}
+use Rattle.px_tree.specs.declared.Stmt.{Stmt}
 use Rattle.px_grammar.specs.declared.error.ReadError.{ReadError}
 use Rattle.px_grammar.specs.declared.error.ReadError.TheVariants.{Unreadable, NoMemory}
 use Rattle.px_grammar.specs.Words.{prefix_sign, binary_sign}

@@ -3,7 +3,7 @@ use Rattle.std.proofs.Common.{◌≡◌, ℕ, zero, suc, ◌<◌, ◌≤◌, Boo
 use Rattle.std.specs.Result.{IsErrAnd}
 use Rattle.px_grammar.specs.declared.lexeme.Word.{Word}
 use Rattle.px_grammar.specs.declared.lexeme.Word.TheVariants as w
-use Rattle.px_grammar.specs.declared.tree.Stmt.{Stmt}
+use Rattle.px_tree.specs.declared.Stmt.{Stmt}
 use Rattle.px_grammar.specs.declared.error.ReadError.{ReadError}
 use Rattle.px_grammar.specs.declared.error.ReadError.TheVariants.{Unreadable, NoMemory}
 use Rattle.px_grammar.specs.Reading.{State, Read, Reads, and_then, ◌>>=◌, by_test, next_word, Gives, Fails, repeated, statement, statement_on, braced, empty, conditional, while_loop, for_loop, returned, is_print, print, ended_by_semicolon, simple}

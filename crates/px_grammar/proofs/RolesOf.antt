@@ -3,10 +3,10 @@ use Rattle.std.proofs.Common.{◌≡◌, ◌⊎◌, inl, inr, Bool, true, false,
 use Rattle.px_grammar.specs.declared.lexeme.Lexeme.{Lexeme}
 use Rattle.px_grammar.specs.declared.lexeme.Word.{Word}
 use Rattle.px_grammar.specs.declared.lexeme.Word.TheVariants as w
-use Rattle.px_grammar.specs.declared.tree.Sign.{Sign}
-use Rattle.px_grammar.specs.declared.tree.Sign.TheVariants as sign
-use Rattle.px_grammar.specs.declared.tree.ExprForm.{ExprForm}
-use Rattle.px_grammar.specs.declared.tree.ExprForm.TheVariants as e
+use Rattle.px_tree.specs.declared.Sign.{Sign}
+use Rattle.px_tree.specs.declared.Sign.TheVariants as sign
+use Rattle.px_tree.specs.declared.ExprForm.{ExprForm}
+use Rattle.px_tree.specs.declared.ExprForm.TheVariants as e
 use Rattle.px_grammar.specs.Lexemes.{is_name}
 use Rattle.px_accept.specs.declared.role.Role.{Role}
 use Rattle.px_accept.specs.declared.role.Role.TheVariants as r

@@ -2,8 +2,8 @@
 use Rattle.std.proofs.Common.{◌≡◌, ℕ, List, [], ◌∷◌, ◌++◌, Some, None, refl, append_assoc}
 use Rattle.px_grammar.specs.declared.lexeme.Lexeme.{Lexeme}
 use Rattle.px_grammar.specs.declared.lexeme.Word.TheVariants as w
-use Rattle.px_grammar.specs.declared.tree.Access.TheVariants as access
-use Rattle.px_grammar.specs.declared.tree.Class.{Class}
+use Rattle.px_tree.specs.declared.Access.TheVariants as access
+use Rattle.px_tree.specs.declared.Class.{Class}
 use Rattle.px_accept.specs.declared.role.Role.{Role}
 use Rattle.px_accept.specs.declared.role.Role.TheVariants as r
 use Rattle.px_accept.specs.declared.role.Spelling.{Spelling}

@@ -4,18 +4,18 @@ use Rattle.std.specs.Prelude.{◌≡◌, ◌≢◌, ◌≤◌, ◌<◌, ℕ, Boo
 use Rattle.px_grammar.specs.declared.lexeme.Lexeme.{Lexeme}
 use Rattle.px_grammar.specs.declared.lexeme.Word.{Word}
 use Rattle.px_grammar.specs.declared.lexeme.Word.TheVariants as w
-use Rattle.px_grammar.specs.declared.tree.Sign.{Sign}
-use Rattle.px_grammar.specs.declared.tree.Expr.{Expr}
-use Rattle.px_grammar.specs.declared.tree.ExprForm.{ExprForm}
-use Rattle.px_grammar.specs.declared.tree.Stmt.{Stmt}
-use Rattle.px_grammar.specs.declared.tree.Access.{Access}
-use Rattle.px_grammar.specs.declared.tree.Access.TheVariants.{Public, Private, Plain}
-use Rattle.px_grammar.specs.declared.tree.TypeName.{TypeName}
-use Rattle.px_grammar.specs.declared.tree.Param.{Param}
-use Rattle.px_grammar.specs.declared.tree.Member.{Member}
-use Rattle.px_grammar.specs.declared.tree.Class.{Class}
-use Rattle.px_grammar.specs.declared.tree.Column.{Column}
-use Rattle.px_grammar.specs.declared.tree.TableDecl.{TableDecl}
+use Rattle.px_tree.specs.declared.Sign.{Sign}
+use Rattle.px_tree.specs.declared.Expr.{Expr}
+use Rattle.px_tree.specs.declared.ExprForm.{ExprForm}
+use Rattle.px_tree.specs.declared.Stmt.{Stmt}
+use Rattle.px_tree.specs.declared.Access.{Access}
+use Rattle.px_tree.specs.declared.Access.TheVariants.{Public, Private, Plain}
+use Rattle.px_tree.specs.declared.TypeName.{TypeName}
+use Rattle.px_tree.specs.declared.Param.{Param}
+use Rattle.px_tree.specs.declared.Member.{Member}
+use Rattle.px_tree.specs.declared.Class.{Class}
+use Rattle.px_tree.specs.declared.Column.{Column}
+use Rattle.px_tree.specs.declared.TableDecl.{TableDecl}
 use Rattle.px_grammar.specs.declared.whole.Declared.{Declared}
 use Rattle.px_grammar.specs.Lexemes.{is_name}
 use Rattle.px_grammar.specs.Words.{binary_sign, level, tightest, prefix_sign, cast_sign, compound_sign, is_base, is_column_type}

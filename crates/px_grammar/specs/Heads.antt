@@ -2,7 +2,7 @@
 use Rattle.std.specs.Prelude.{◌≡◌, ℕ, ◌+◌, List, Option, Some, None, Result, Ok, Err}
 use Rattle.px_grammar.specs.declared.lexeme.Word.{Word}
 use Rattle.px_grammar.specs.declared.lexeme.Word.TheVariants as w
-use Rattle.px_grammar.specs.declared.tree.Expr.{Expr}
+use Rattle.px_tree.specs.declared.Expr.{Expr}
 use Rattle.px_grammar.specs.declared.heads.Head.{Head}
 use Rattle.px_grammar.specs.declared.heads.Head.TheVariants as head
 use Rattle.px_grammar.specs.declared.heads.Prefix.{Prefix}

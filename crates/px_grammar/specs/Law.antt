@@ -4,7 +4,7 @@ use Rattle.px_grammar.specs.declared.lexeme.Lexeme.{Lexeme}
 use Rattle.px_grammar.specs.declared.whole.Declared.{Declared}
 use Rattle.px_grammar.specs.Grammar.{SpellsProgram}
 use Rattle.px_grammar.specs.Reading.{program}
-use Rattle.px_grammar.specs.declared.tree.Program.{Program}
+use Rattle.px_tree.specs.declared.Program.{Program}
 use Rattle.px_grammar.specs.Programs.{IsProgram}
 use Rattle.px_grammar.specs.Places.{IsRefusedAt}
 

@@ -2,7 +2,6 @@ pub mod Lexemes
 pub mod Words
 pub mod Roles
 pub mod Trees
-pub mod Numbering
 pub mod Grammar
 pub mod Reading
 pub mod Heads

@@ -2,11 +2,11 @@
 use Rattle.std.specs.Prelude.{◌≡◌, ℕ, List, Option, Some, None}
 use Rattle.px_lex.specs.Cutting.{tokens_of}
 use Rattle.px_grammar.specs.Lexemes.{lexemes_of}
-use Rattle.px_grammar.specs.declared.tree.Program.{Program}
+use Rattle.px_tree.specs.declared.Program.{Program}
 use Rattle.px_grammar.specs.declared.whole.Declared.{Declared}
 use Rattle.px_grammar.specs.Grammar.{SpellsProgram}
 use Rattle.px_grammar.specs.Places.{IsShallow, IsRefusedAt}
-use Rattle.px_grammar.specs.Numbering.{numbered_classes}
+use Rattle.px_tree.specs.Numbering.{numbered_classes}
 
 -- The text's lexemes spell tables and classes, and nest no deeper than programs may; the program is those, its classes numbered.
 pub record IsProgram (bytes : List ℕ) (program : Program) : Type 0 where

@@ -3,24 +3,24 @@ use Rattle.std.specs.Prelude.{ℕ, ◌-◌, ◌==◌, ◌||◌, Bool, true, fals
 use Rattle.px_grammar.specs.declared.lexeme.Lexeme.{Lexeme}
 use Rattle.px_grammar.specs.declared.lexeme.Word.{Word}
 use Rattle.px_grammar.specs.declared.lexeme.Word.TheVariants as w
-use Rattle.px_grammar.specs.declared.tree.Access.{Access}
-use Rattle.px_grammar.specs.declared.tree.Base.{Base}
-use Rattle.px_grammar.specs.declared.tree.Base.TheVariants as base
-use Rattle.px_grammar.specs.declared.tree.TypeName.{TypeName}
-use Rattle.px_grammar.specs.declared.tree.Name.{Name as NameData}
-use Rattle.px_grammar.specs.declared.tree.Sign.{Sign}
-use Rattle.px_grammar.specs.declared.tree.Expr.{Expr}
-use Rattle.px_grammar.specs.declared.tree.ExprForm.{ExprForm}
-use Rattle.px_grammar.specs.declared.tree.ExprForm.TheVariants as e
-use Rattle.px_grammar.specs.declared.tree.Stmt.{Stmt}
-use Rattle.px_grammar.specs.declared.tree.StmtForm.{StmtForm}
-use Rattle.px_grammar.specs.declared.tree.StmtForm.TheVariants as s
-use Rattle.px_grammar.specs.declared.tree.Param.{Param}
-use Rattle.px_grammar.specs.declared.tree.Member.{Member}
-use Rattle.px_grammar.specs.declared.tree.Member.TheVariants.{Field, Method}
-use Rattle.px_grammar.specs.declared.tree.Class.{Class}
-use Rattle.px_grammar.specs.declared.tree.Column.{Column}
-use Rattle.px_grammar.specs.declared.tree.TableDecl.{TableDecl}
+use Rattle.px_tree.specs.declared.Access.{Access}
+use Rattle.px_tree.specs.declared.Base.{Base}
+use Rattle.px_tree.specs.declared.Base.TheVariants as base
+use Rattle.px_tree.specs.declared.TypeName.{TypeName}
+use Rattle.px_tree.specs.declared.Name.{Name as NameData}
+use Rattle.px_tree.specs.declared.Sign.{Sign}
+use Rattle.px_tree.specs.declared.Expr.{Expr}
+use Rattle.px_tree.specs.declared.ExprForm.{ExprForm}
+use Rattle.px_tree.specs.declared.ExprForm.TheVariants as e
+use Rattle.px_tree.specs.declared.Stmt.{Stmt}
+use Rattle.px_tree.specs.declared.StmtForm.{StmtForm}
+use Rattle.px_tree.specs.declared.StmtForm.TheVariants as s
+use Rattle.px_tree.specs.declared.Param.{Param}
+use Rattle.px_tree.specs.declared.Member.{Member}
+use Rattle.px_tree.specs.declared.Member.TheVariants.{Field, Method}
+use Rattle.px_tree.specs.declared.Class.{Class}
+use Rattle.px_tree.specs.declared.Column.{Column}
+use Rattle.px_tree.specs.declared.TableDecl.{TableDecl}
 use Rattle.px_grammar.specs.Lexemes.{spelled}
 
 abbrev pub first_token : List Lexeme → ℕ

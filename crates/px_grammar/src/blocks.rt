@@ -8,7 +8,7 @@ use crate::lexeme::{Lexeme, Word};
 use crate::nodes::{block_of, for_of, if_of, while_of};
 use crate::source::Source;
 use crate::tokens::Tokens;
-use crate::tree::{Expr, Stmt};
+use px_tree::{Expr, Stmt};
 use sqlite_items::{Boxed, Items};
 
 /// A block, and the number of its last token.

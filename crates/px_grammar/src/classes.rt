@@ -8,7 +8,7 @@ use crate::error::ReadError;
 use crate::lexeme::{Lexeme, Word};
 use crate::source::Source;
 use crate::tokens::Tokens;
-use crate::tree::{Class, Column, Member, TableDecl};
+use px_tree::{Class, Column, Member, TableDecl};
 use crate::whole::Declared;
 use sqlite_items::Items;
 use std::alloc::AllocError;

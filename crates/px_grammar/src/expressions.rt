@@ -10,7 +10,7 @@ use crate::lexeme::Word;
 use crate::signs::level;
 use crate::source::Source;
 use crate::tokens::Tokens;
-use crate::tree::Expr;
+use px_tree::Expr;
 use sqlite_items::Items;
 
 impl Source<'_> {

@@ -4,7 +4,7 @@ ghost use Rattle.px_grammar.specs.Reading as spec;
 ghost use Rattle.px_grammar.specs.Reading.{Reads};
 ghost use Rattle.px_grammar.specs.Trees as tree;
 ghost use Rattle.px_grammar.specs.Words as words;
-ghost use Rattle.px_grammar.specs.declared.tree.Expr.{Expr};
+ghost use Rattle.px_tree.specs.declared.Expr.{Expr};
 ghost use Rattle.px_grammar.specs.Heads.{Leads, behind_head, behind_prefix, behind_suffix, behind_suffixes, behind_operator};
 
 use crate::error::ReadError;
@@ -13,7 +13,7 @@ use crate::nodes::{expression_of, word_form};
 use crate::signs::{binary_sign, cast_to, level, prefix_sign};
 use crate::source::Source;
 use crate::tokens::Tokens;
-use crate::tree::{Expr, Sign};
+use px_tree::{Expr, Sign};
 
 /// The begin of an expression without operators.
 #[derive(Drop)]

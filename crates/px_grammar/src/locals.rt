@@ -9,7 +9,7 @@ use crate::error::ReadError;
 use crate::lexeme::{Lexeme, Word};
 use crate::source::Source;
 use crate::tokens::Tokens;
-use crate::tree::{Expr, Stmt, StmtForm, TypeName};
+use px_tree::{Expr, Stmt, StmtForm, TypeName};
 use std::alloc::AllocError;
 
 fn is_primitive(word: Word) -> bool

@@ -9,7 +9,7 @@ use crate::error::ReadError;
 use crate::lexeme::{Lexeme, Word};
 use crate::source::Source;
 use crate::tokens::Tokens;
-use crate::tree::{Access, FieldDecl, Member, Method, Param, TypeName};
+use px_tree::{Access, FieldDecl, Member, Method, Param, TypeName};
 use sqlite_items::Items;
 use std::alloc::AllocError;
 

@@ -4,7 +4,7 @@ ghost use Rattle.px_grammar.specs.Trees as tree;
 
 use crate::lexeme::{Lexeme, Word};
 use crate::source::Source;
-use crate::tree::{Expr, ExprForm, Sign, Stmt, StmtForm};
+use px_tree::{Expr, ExprForm, Sign, Stmt, StmtForm};
 use sqlite_items::{Boxed, Items};
 use std::alloc::AllocError;
 

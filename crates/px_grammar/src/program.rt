@@ -9,10 +9,9 @@ ghost use Rattle.px_grammar.specs.Programs.{IsJudged, IsProgram, IsProgramText};
 
 use crate::error::{ParseError, ReadError};
 use crate::lexeme::Lexeme;
-use crate::numbering::number;
 use crate::roles::roles;
 use crate::source::Source;
-use crate::tree::Program;
+use px_tree::{Program, number};
 use crate::whole::Declared;
 use crate::word::lexemes;
 use px_accept::first_refused;

@@ -4,7 +4,7 @@ ghost use Rattle.px_grammar.specs.Words as spec;
 ghost use Rattle.px_grammar.specs.Reading.{cast_to};
 
 use crate::lexeme::Word;
-use crate::tree::Sign;
+use px_tree::Sign;
 
 /// Between two operands.
 pub fn binary_sign(word: Word) -> Option<Sign>

@@ -4,15 +4,15 @@ ghost use Rattle.px_grammar.specs.Reading as spec;
 ghost use Rattle.px_grammar.specs.Reading.{Gives};
 ghost use Rattle.px_grammar.specs.Trees as tree;
 ghost use Rattle.px_grammar.specs.Words as words;
-ghost use Rattle.px_grammar.specs.declared.tree.ExprForm.{out-ExprForm};
-ghost use Rattle.px_grammar.specs.declared.tree.StmtForm.TheVariants as s;
+ghost use Rattle.px_tree.specs.declared.ExprForm.{out-ExprForm};
+ghost use Rattle.px_tree.specs.declared.StmtForm.TheVariants as s;
 
 use crate::error::ReadError;
 use crate::lexeme::Word;
 use crate::signs::compound_sign;
 use crate::source::Source;
 use crate::tokens::Tokens;
-use crate::tree::{Expr, ExprForm, Name, Sign, Stmt, StmtForm};
+use px_tree::{Expr, ExprForm, Name, Sign, Stmt, StmtForm};
 
 // The name that a name alone is.
 fn bare_name(form: ExprForm) -> Option<Name>

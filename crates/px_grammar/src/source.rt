@@ -4,7 +4,7 @@ ghost use Rattle.px_grammar.specs.Lexemes.{spelled};
 ghost use Rattle.px_grammar.specs.Trees as spec;
 
 use crate::lexeme::{Lexeme, Word};
-use crate::tree::{Base, Expr, ExprForm, Name, TypeName};
+use px_tree::{Base, Expr, ExprForm, Name, TypeName};
 use px_lex::spelling;
 use sqlite_items::Items;
 use std::alloc::{AllocError, Global};

@@ -8,7 +8,7 @@ use crate::lexeme::Word;
 use crate::nodes::{empty_of, print_of, return_of};
 use crate::source::Source;
 use crate::tokens::Tokens;
-use crate::tree::{Expr, Stmt};
+use px_tree::{Expr, Stmt};
 use sqlite_items::Boxed;
 
 impl Tokens<'_> {

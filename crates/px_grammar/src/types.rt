@@ -7,7 +7,7 @@ use crate::error::ReadError;
 use crate::lexeme::{Lexeme, Word};
 use crate::source::Source;
 use crate::tokens::Tokens;
-use crate::tree::TypeName;
+use px_tree::TypeName;
 
 impl Source<'_> {
     // Behind the type of an array's elements.

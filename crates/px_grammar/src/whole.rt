@@ -1,5 +1,5 @@
 //! The whole of a text.
-use crate::tree::{Class, TableDecl};
+use px_tree::{Class, TableDecl};
 use sqlite_items::Items;
 
 /// What a program declares.

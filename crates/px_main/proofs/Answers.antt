@@ -28,7 +28,7 @@ use Rattle.px_main.specs.declared.fault.ProgramCode.TheVariants.{Syntax}
 use Rattle.px_main.specs.Commands.{Command, Checks, Serves}
 use Rattle.px_main.specs.Whole.{IsFaultOf, ungrammatical, grammatical, IsBuiltWhole, JudgesWhole, fault_at, breach_fault}
 use Rattle.px_main.specs.Answers.{Answer, IsParsed, unbuilt, built, IsTaken, IsRuled, IsBuilt, Judges, AnswersCalls, AnswersSplit, AnswersRead, AnswersJob, AnswersProgram, IsAnswer, IsChecked, check_answer, Holds, AllowsCheck, AllowsBoth, FixesBoth, FixesCheck, FixesStatusBoth, FixesStatusCheck, Fixes, HasStatus, HasCheckStatus, status_read, status_by, status_of_job, status_of, typed, kept, max_program, max_job}
-use Rattle.px_grammar.specs.declared.tree.Program.{Program as WholeProgram}
+use Rattle.px_tree.specs.declared.Program.{Program as WholeProgram}
 use Rattle.px_grammar.specs.Unbuilt as whole
 use Rattle.px_grammar.proofs.Programs as whole_programs
 use Rattle.px_rules.specs.Programs.{first_breach_of}

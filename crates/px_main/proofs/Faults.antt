@@ -1,7 +1,7 @@
 -- What the answers of `whole` cite.
 use Rattle.std.proofs.Common.{◌≡◌, ℕ, List, Option, Some, None, sym, ap, ◌∙◌}
 use Rattle.px_lex.specs.declared.token.Token.{Token}
-use Rattle.px_grammar.specs.declared.tree.Program.{Program}
+use Rattle.px_tree.specs.declared.Program.{Program}
 use Rattle.px_grammar.specs.Places.{line_at}
 use Rattle.px_rules.specs.declared.breach.Breach.{Breach}
 use Rattle.px_rules.specs.Programs.{first_breach_of}

@@ -1,6 +1,6 @@
 -- What the rules of the whole language find in a program file.
 use Rattle.std.specs.Prelude.{◌≡◌, ℕ, List, Option, Some, None}
-use Rattle.px_grammar.specs.declared.tree.Program.{Program}
+use Rattle.px_tree.specs.declared.Program.{Program}
 use Rattle.px_grammar.specs.Programs.{IsProgram}
 use Rattle.px_grammar.specs.Places.{IsRefusedAt, line_at}
 use Rattle.px_grammar.specs.Unbuilt.{unbuilt_line}

@@ -1,7 +1,7 @@
 -- The least breach that a walk has kept is the least of all.
 use Rattle.std.proofs.Common.{◌≡◌, ℕ, ◌+◌, Bool, true, false, List, [], ◌∷◌, Option, None, if◌then◌else◌, refl}
 use Rattle.std.specs.Prelude.{nat_lt}
-use Rattle.px_grammar.specs.declared.tree.Program.{Program}
+use Rattle.px_tree.specs.declared.Program.{Program}
 use Rattle.px_rules.specs.declared.breach.Breach.{Breach}
 use Rattle.px_rules.specs.declared.report.Report.{Report}
 use Rattle.px_rules.specs.Breaches.{Note, Fault, New, OneMethod, at, lesser, least, breaches, noted, after, max_news, max_methods}

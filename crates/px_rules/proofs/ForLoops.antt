@@ -1,6 +1,6 @@
 -- The parts of a `for`, one after the other.
 use Rattle.std.proofs.Common.{◌≡◌, ℕ, ◌++◌, true, ap, ◌∙◌}
-use Rattle.px_grammar.specs.declared.tree.Expr.{Expr}
+use Rattle.px_tree.specs.declared.Expr.{Expr}
 use Rattle.px_rules.specs.declared.context.Context.{Context}
 use Rattle.px_rules.specs.declared.locals.Locals.{Locals}
 use Rattle.px_rules.specs.declared.report.Report.{Report}

@@ -1,13 +1,13 @@
 -- What is known of each form of an expression.
 use Rattle.std.proofs.Common.{◌≡◌, ℕ, Bool, false, List, map, Some, None, sym, ap, ◌∙◌}
-use Rattle.px_grammar.specs.declared.tree.Sign.{Sign}
-use Rattle.px_grammar.specs.declared.tree.Base.{Base}
-use Rattle.px_grammar.specs.declared.tree.Name.{Name as NameOf}
-use Rattle.px_grammar.specs.declared.tree.Expr.{Expr, fold_out-Expr}
-use Rattle.px_grammar.specs.declared.tree.ExprForm.{ExprForm, ExprForm-F, fold-ExprForm, fold-roll-ExprForm, roll-ExprForm, map-ExprForm}
-use Rattle.px_grammar.specs.declared.tree.ExprForm.TheVariants.{Number, rolls-Number, Str, rolls-Str, True, rolls-True, False, rolls-False, Null, rolls-Null, This, rolls-This, Name, rolls-Name, Group, rolls-Group, Field, rolls-Field, Index, rolls-Index, Call, rolls-Call, NewObject, rolls-NewObject, NewArray, rolls-NewArray, Prefix, rolls-Prefix, Binary, rolls-Binary}
-use Rattle.px_grammar.specs.declared.tree.ExprForm.TheOpen.{ExprForm-F as f}
-use Rattle.px_rules.specs.declared.types.Ty.TheVariants as ty
+use Rattle.px_tree.specs.declared.Sign.{Sign}
+use Rattle.px_tree.specs.declared.Base.{Base}
+use Rattle.px_tree.specs.declared.Name.{Name as NameOf}
+use Rattle.px_tree.specs.declared.Expr.{Expr, fold_out-Expr}
+use Rattle.px_tree.specs.declared.ExprForm.{ExprForm, ExprForm-F, fold-ExprForm, fold-roll-ExprForm, roll-ExprForm, map-ExprForm}
+use Rattle.px_tree.specs.declared.ExprForm.TheVariants.{Number, rolls-Number, Str, rolls-Str, True, rolls-True, False, rolls-False, Null, rolls-Null, This, rolls-This, Name, rolls-Name, Group, rolls-Group, Field, rolls-Field, Index, rolls-Index, Call, rolls-Call, NewObject, rolls-NewObject, NewArray, rolls-NewArray, Prefix, rolls-Prefix, Binary, rolls-Binary}
+use Rattle.px_tree.specs.declared.ExprForm.TheOpen.{ExprForm-F as f}
+use Rattle.px_facts.specs.declared.types.Ty.TheVariants as ty
 use Rattle.px_rules.specs.declared.context.Context.{Context}
 use Rattle.px_rules.specs.declared.locals.Locals.{Locals}
 use Rattle.px_rules.specs.Operators.{is_minus}

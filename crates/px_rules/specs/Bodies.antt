@@ -1,14 +1,14 @@
 -- What is known of methods, and of the statements and expressions in them.
 use Rattle.std.specs.Prelude.{ℕ, ◌+◌, List, [], ◌∷◌, ◌++◌, map, length}
-use Rattle.px_grammar.specs.declared.tree.Param.{Param}
-use Rattle.px_grammar.specs.declared.tree.Method.{Method}
-use Rattle.px_grammar.specs.declared.tree.Member.{Member}
-use Rattle.px_grammar.specs.declared.tree.Member.TheVariants as member
-use Rattle.px_grammar.specs.declared.tree.Class.{Class}
+use Rattle.px_tree.specs.declared.Param.{Param}
+use Rattle.px_tree.specs.declared.Method.{Method}
+use Rattle.px_tree.specs.declared.Member.{Member}
+use Rattle.px_tree.specs.declared.Member.TheVariants as member
+use Rattle.px_tree.specs.declared.Class.{Class}
 use Rattle.px_rules.specs.declared.table.Table.{Table}
 use Rattle.px_rules.specs.declared.classes.Members.{Members}
-use Rattle.px_rules.specs.declared.checked.Fact.{Fact}
-use Rattle.px_rules.specs.declared.checked.MethodFact.{MethodFact}
+use Rattle.px_facts.specs.declared.checked.Fact.{Fact}
+use Rattle.px_facts.specs.declared.checked.MethodFact.{MethodFact}
 use Rattle.px_rules.specs.declared.home.Home.{Home}
 use Rattle.px_rules.specs.declared.scope.Scope.{Scope}
 use Rattle.px_rules.specs.Members.{classes_of, param_type, result_type}

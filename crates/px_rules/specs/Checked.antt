@@ -2,18 +2,18 @@
 use Rattle.std.specs.Prelude.{ℕ, List, Option, Some, None, map, slice_get}
 use Rattle.std.specs.Option.{option_map}
 use Rattle.px_lex.specs.declared.token.Token.{Token}
-use Rattle.px_grammar.specs.declared.tree.Program.{Program}
-use Rattle.px_grammar.specs.declared.tree.Class.{Class}
+use Rattle.px_tree.specs.declared.Program.{Program}
+use Rattle.px_tree.specs.declared.Class.{Class}
 use Rattle.px_rules.specs.declared.breach.Breach.{Breach}
-use Rattle.px_rules.specs.declared.types.Ty.{Ty}
+use Rattle.px_facts.specs.declared.types.Ty.{Ty}
 use Rattle.px_rules.specs.declared.classes.FieldType.{FieldType}
 use Rattle.px_rules.specs.declared.classes.Members.{Members}
-use Rattle.px_rules.specs.declared.checked.ClassFact.{ClassFact}
-use Rattle.px_rules.specs.declared.checked.Facts.{Facts}
-use Rattle.px_rules.specs.declared.checked.Main.{Main}
+use Rattle.px_facts.specs.declared.checked.ClassFact.{ClassFact}
+use Rattle.px_facts.specs.declared.checked.Facts.{Facts}
+use Rattle.px_facts.specs.declared.checked.Main.{Main}
 use Rattle.px_rules.specs.declared.bodies.Known.{Known}
 use Rattle.px_rules.specs.declared.home.Home.{Home}
-use Rattle.px_rules.specs.declared.checked.Checked.{Checked}
+use Rattle.px_facts.specs.declared.checked.Checked.{Checked}
 use Rattle.px_rules.specs.declared.error.CheckError.{CheckError}
 use Rattle.px_rules.specs.declared.error.CheckError.TheVariants.{TypeFault}
 use Rattle.px_rules.specs.Programs.{first_breach_of}

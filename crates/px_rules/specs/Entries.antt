@@ -3,18 +3,18 @@ use Rattle.std.specs.Prelude.{ℕ, ◌+◌, List, [], ◌∷◌, ◌++◌, Optio
 use Rattle.std.specs.Str.{bytes_eq}
 use Rattle.px_value.specs.declared.ty.Ty.{Ty as ValueType}
 use Rattle.px_value.specs.declared.ty.Ty.TheVariants as value
-use Rattle.px_grammar.specs.declared.tree.Access.{Access}
-use Rattle.px_grammar.specs.declared.tree.Access.TheVariants.{Public}
-use Rattle.px_grammar.specs.declared.tree.Param.{Param}
-use Rattle.px_grammar.specs.declared.tree.Method.{Method}
-use Rattle.px_grammar.specs.declared.tree.Member.{Member}
-use Rattle.px_grammar.specs.declared.tree.Member.TheVariants as member
-use Rattle.px_grammar.specs.declared.tree.Class.{Class}
-use Rattle.px_rules.specs.declared.types.Ty.{Ty}
-use Rattle.px_rules.specs.declared.types.Ty.TheVariants as ty
+use Rattle.px_tree.specs.declared.Access.{Access}
+use Rattle.px_tree.specs.declared.Access.TheVariants.{Public}
+use Rattle.px_tree.specs.declared.Param.{Param}
+use Rattle.px_tree.specs.declared.Method.{Method}
+use Rattle.px_tree.specs.declared.Member.{Member}
+use Rattle.px_tree.specs.declared.Member.TheVariants as member
+use Rattle.px_tree.specs.declared.Class.{Class}
+use Rattle.px_facts.specs.declared.types.Ty.{Ty}
+use Rattle.px_facts.specs.declared.types.Ty.TheVariants as ty
 use Rattle.px_rules.specs.declared.table.Table.{Table}
-use Rattle.px_rules.specs.declared.checked.Entry.{Entry}
-use Rattle.px_rules.specs.declared.checked.Main.{Main}
+use Rattle.px_facts.specs.declared.checked.Entry.{Entry}
+use Rattle.px_facts.specs.declared.checked.Main.{Main}
 use Rattle.px_rules.specs.Members.{param_type, result_type}
 
 -- the type that values have while a program runs

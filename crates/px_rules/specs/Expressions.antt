@@ -1,19 +1,19 @@
 -- The types of expressions, and the rules that they break (JLS 15).
 use Rattle.std.specs.Prelude.{ℕ, ◌+◌, Bool, false, not, ◌||◌, ◌&&◌, List, [], ◌∷◌, ◌++◌, Option, Some, None, is_none, length, nat_eq, nat_le, slice_index_or, if◌then◌else◌}
-use Rattle.px_grammar.specs.declared.tree.Sign.{Sign}
-use Rattle.px_grammar.specs.declared.tree.Name.{Name}
-use Rattle.px_grammar.specs.declared.tree.Base.{Base}
-use Rattle.px_grammar.specs.declared.tree.Expr.{Expr, Expr-F, fold-Expr}
-use Rattle.px_grammar.specs.declared.tree.ExprForm.{ExprForm, ExprForm-F, fold-ExprForm}
-use Rattle.px_grammar.specs.declared.tree.ExprForm.TheOpen.{ExprForm-F as e}
-use Rattle.px_rules.specs.declared.types.Ty.{Ty}
-use Rattle.px_rules.specs.declared.types.Ty.TheVariants.{Unknown, Null, Int, Boolean, Text, Object}
+use Rattle.px_tree.specs.declared.Sign.{Sign}
+use Rattle.px_tree.specs.declared.Name.{Name}
+use Rattle.px_tree.specs.declared.Base.{Base}
+use Rattle.px_tree.specs.declared.Expr.{Expr, Expr-F, fold-Expr}
+use Rattle.px_tree.specs.declared.ExprForm.{ExprForm, ExprForm-F, fold-ExprForm}
+use Rattle.px_tree.specs.declared.ExprForm.TheOpen.{ExprForm-F as e}
+use Rattle.px_facts.specs.declared.types.Ty.{Ty}
+use Rattle.px_facts.specs.declared.types.Ty.TheVariants.{Unknown, Null, Int, Boolean, Text, Object}
 use Rattle.px_rules.specs.declared.classes.FieldType.{FieldType}
 use Rattle.px_rules.specs.declared.classes.MethodType.{MethodType}
 use Rattle.px_rules.specs.declared.context.Context.{Context}
 use Rattle.px_rules.specs.declared.locals.Locals.{Locals}
 use Rattle.px_rules.specs.Breaches.{Note, New, breach_if}
-use Rattle.px_rules.specs.Types.{is_unknown, is_array, fits, array_of, indexed}
+use Rattle.px_facts.specs.Types.{is_unknown, is_array, fits, array_of, indexed}
 use Rattle.px_rules.specs.Operators.{is_minus, prefix_fits, prefix_type, group_of, operands_fit, group_type, compares_texts}
 use Rattle.px_rules.specs.Literals.{max_text, literal_type, is_in_range}
 use Rattle.px_rules.specs.Names.{find}

@@ -1,13 +1,13 @@
 -- What names stand for in a program that keeps the rules (JLS 6.5).
 use Rattle.std.specs.Prelude.{ℕ, zero, suc, ◌+◌, List, [], ◌∷◌, Option, Some, None, length, slice_get}
 use Rattle.std.specs.Option.{option_and_then}
-use Rattle.px_rules.specs.declared.types.Ty.{Ty}
-use Rattle.px_rules.specs.declared.types.Ty.TheVariants as ty
+use Rattle.px_facts.specs.declared.types.Ty.{Ty}
+use Rattle.px_facts.specs.declared.types.Ty.TheVariants as ty
 use Rattle.px_rules.specs.declared.classes.Members.{Members}
 use Rattle.px_rules.specs.declared.classes.Classes.{Classes}
-use Rattle.px_rules.specs.declared.checked.Named.{Named}
-use Rattle.px_rules.specs.declared.checked.Named.TheVariants.{Nothing, Local, Field, Method, NewObject, NewArray, ArrayLength, TextLength, TextEquals}
-use Rattle.px_rules.specs.declared.checked.Fact.{Fact}
+use Rattle.px_facts.specs.declared.checked.Named.{Named}
+use Rattle.px_facts.specs.declared.checked.Named.TheVariants.{Nothing, Local, Field, Method, NewObject, NewArray, ArrayLength, TextLength, TextEquals}
+use Rattle.px_facts.specs.declared.checked.Fact.{Fact}
 use Rattle.px_rules.specs.declared.home.Home.{Home}
 use Rattle.px_rules.specs.declared.scope.Slot.{Slot}
 use Rattle.px_rules.specs.declared.scope.Scope.{Scope}

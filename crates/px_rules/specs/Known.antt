@@ -1,14 +1,14 @@
 -- What is known of an expression, and of those in it.
 use Rattle.std.specs.Prelude.{ℕ, List, [], ◌∷◌, ◌++◌, Option, Some, None}
-use Rattle.px_grammar.specs.declared.tree.Expr.{Expr, Expr-F, fold-Expr}
-use Rattle.px_grammar.specs.declared.tree.ExprForm.{ExprForm, ExprForm-F, fold-ExprForm}
-use Rattle.px_grammar.specs.declared.tree.ExprForm.TheOpen.{ExprForm-F as e}
-use Rattle.px_rules.specs.declared.types.Ty.{Ty}
-use Rattle.px_rules.specs.declared.types.Ty.TheVariants.{Null, Boolean, Text, Object}
-use Rattle.px_rules.specs.declared.checked.Fact.{Fact}
+use Rattle.px_tree.specs.declared.Expr.{Expr, Expr-F, fold-Expr}
+use Rattle.px_tree.specs.declared.ExprForm.{ExprForm, ExprForm-F, fold-ExprForm}
+use Rattle.px_tree.specs.declared.ExprForm.TheOpen.{ExprForm-F as e}
+use Rattle.px_facts.specs.declared.types.Ty.{Ty}
+use Rattle.px_facts.specs.declared.types.Ty.TheVariants.{Null, Boolean, Text, Object}
+use Rattle.px_facts.specs.declared.checked.Fact.{Fact}
 use Rattle.px_rules.specs.declared.home.Home.{Home}
 use Rattle.px_rules.specs.declared.scope.Scope.{Scope}
-use Rattle.px_rules.specs.Types.{array_of, indexed}
+use Rattle.px_facts.specs.Types.{array_of, indexed}
 use Rattle.px_rules.specs.Literals.{literal_type}
 use Rattle.px_rules.specs.Operators.{prefix_type, group_of, group_type}
 use Rattle.px_rules.specs.Members.{base_type}

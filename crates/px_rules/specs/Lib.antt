@@ -1,5 +1,4 @@
 pub mod Breaches
-pub mod Types
 pub mod Operators
 pub mod Literals
 pub mod Names

@@ -1,20 +1,20 @@
 -- Classes, and their fields and methods by name (JLS 8).
 use Rattle.std.specs.Prelude.{ℕ, ◌+◌, Bool, true, false, not, ◌&&◌, List, [], ◌∷◌, Option, Some, None, is_none, map, fold, codes, nat_eq, slice_get, if◌then◌else◌}
 use Rattle.std.specs.Option.{option_and_then}
-use Rattle.px_grammar.specs.declared.tree.Access.{Access}
-use Rattle.px_grammar.specs.declared.tree.Access.TheVariants.{Private, Plain}
-use Rattle.px_grammar.specs.declared.tree.Base.{Base}
-use Rattle.px_grammar.specs.declared.tree.Base.TheVariants as base
-use Rattle.px_grammar.specs.declared.tree.Name.{Name}
-use Rattle.px_grammar.specs.declared.tree.TypeName.{TypeName}
-use Rattle.px_grammar.specs.declared.tree.Param.{Param}
-use Rattle.px_grammar.specs.declared.tree.Method.{Method}
-use Rattle.px_grammar.specs.declared.tree.FieldDecl.{FieldDecl}
-use Rattle.px_grammar.specs.declared.tree.Member.{Member}
-use Rattle.px_grammar.specs.declared.tree.Member.TheVariants as member
-use Rattle.px_grammar.specs.declared.tree.Class.{Class}
-use Rattle.px_rules.specs.declared.types.Ty.{Ty}
-use Rattle.px_rules.specs.declared.types.Ty.TheVariants.{Unknown, Void, Int, Long, Boolean, Text, Object, Array}
+use Rattle.px_tree.specs.declared.Access.{Access}
+use Rattle.px_tree.specs.declared.Access.TheVariants.{Private, Plain}
+use Rattle.px_tree.specs.declared.Base.{Base}
+use Rattle.px_tree.specs.declared.Base.TheVariants as base
+use Rattle.px_tree.specs.declared.Name.{Name}
+use Rattle.px_tree.specs.declared.TypeName.{TypeName}
+use Rattle.px_tree.specs.declared.Param.{Param}
+use Rattle.px_tree.specs.declared.Method.{Method}
+use Rattle.px_tree.specs.declared.FieldDecl.{FieldDecl}
+use Rattle.px_tree.specs.declared.Member.{Member}
+use Rattle.px_tree.specs.declared.Member.TheVariants as member
+use Rattle.px_tree.specs.declared.Class.{Class}
+use Rattle.px_facts.specs.declared.types.Ty.{Ty}
+use Rattle.px_facts.specs.declared.types.Ty.TheVariants.{Unknown, Void, Int, Long, Boolean, Text, Object, Array}
 use Rattle.px_rules.specs.declared.table.Table.{Table}
 use Rattle.px_rules.specs.declared.classes.FieldType.{FieldType}
 use Rattle.px_rules.specs.declared.classes.MethodType.{MethodType}
@@ -22,7 +22,7 @@ use Rattle.px_rules.specs.declared.classes.Members.{Members}
 use Rattle.px_rules.specs.declared.classes.Classes.{Classes}
 use Rattle.px_rules.specs.Breaches.{Note, breach_if}
 use Rattle.px_rules.specs.Names.{empty, declare, find}
-use Rattle.px_rules.specs.Types.{array_of}
+use Rattle.px_facts.specs.Types.{array_of}
 
 -- ---- types by name
 

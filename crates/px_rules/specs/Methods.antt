@@ -1,18 +1,18 @@
 -- The rules of a method (JLS 8.4).
 use Rattle.std.specs.Prelude.{ℕ, ◌+◌, ◌-◌, Bool, true, false, not, ◌&&◌, ◌||◌, List, [], ◌∷◌, ◌++◌, Option, Some, None, nat_lt}
 use Rattle.std.specs.List.{list_all}
-use Rattle.px_grammar.specs.declared.tree.Access.{Access}
-use Rattle.px_grammar.specs.declared.tree.Access.TheVariants.{Public}
-use Rattle.px_grammar.specs.declared.tree.TypeName.{TypeName}
-use Rattle.px_grammar.specs.declared.tree.Param.{Param}
-use Rattle.px_grammar.specs.declared.tree.Method.{Method}
-use Rattle.px_rules.specs.declared.types.Ty.{Ty}
+use Rattle.px_tree.specs.declared.Access.{Access}
+use Rattle.px_tree.specs.declared.Access.TheVariants.{Public}
+use Rattle.px_tree.specs.declared.TypeName.{TypeName}
+use Rattle.px_tree.specs.declared.Param.{Param}
+use Rattle.px_tree.specs.declared.Method.{Method}
+use Rattle.px_facts.specs.declared.types.Ty.{Ty}
 use Rattle.px_rules.specs.declared.table.Table.{Table}
 use Rattle.px_rules.specs.declared.classes.Classes.{Classes}
 use Rattle.px_rules.specs.declared.context.Context.{Context}
 use Rattle.px_rules.specs.declared.locals.Locals.{Locals}
 use Rattle.px_rules.specs.Breaches.{Note, breach_if}
-use Rattle.px_rules.specs.Types.{is_void, is_printable}
+use Rattle.px_facts.specs.Types.{is_void, is_printable}
 use Rattle.px_rules.specs.Members.{result_type, param_type, names_no_class}
 use Rattle.px_rules.specs.Scopes.{no_locals, with_local, all_usable, local_notes}
 use Rattle.px_rules.specs.Statements.{Judged, judged}

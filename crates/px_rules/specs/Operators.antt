@@ -1,12 +1,12 @@
 -- The operands and the types of operators (JLS 15.14 to 15.26).
 use Rattle.std.specs.Prelude.{Bool, true, false, not, ◌&&◌, ◌||◌, if◌then◌else◌}
-use Rattle.px_grammar.specs.declared.tree.Sign.{Sign}
-use Rattle.px_grammar.specs.declared.tree.Sign.TheVariants.{Plus, Minus, Times, Over, Rest, And, Or, Xor, Shl, Shr, Ushr, Less, AtMost, More, AtLeast, Equal, Unequal, Both, Either, Not, Inv, ToInt, ToLong}
-use Rattle.px_rules.specs.declared.types.Ty.{Ty}
-use Rattle.px_rules.specs.declared.types.Ty.TheVariants.{Unknown, Int, Long, Boolean, Text}
+use Rattle.px_tree.specs.declared.Sign.{Sign}
+use Rattle.px_tree.specs.declared.Sign.TheVariants.{Plus, Minus, Times, Over, Rest, And, Or, Xor, Shl, Shr, Ushr, Less, AtMost, More, AtLeast, Equal, Unequal, Both, Either, Not, Inv, ToInt, ToLong}
+use Rattle.px_facts.specs.declared.types.Ty.{Ty}
+use Rattle.px_facts.specs.declared.types.Ty.TheVariants.{Unknown, Int, Long, Boolean, Text}
 use Rattle.px_rules.specs.declared.operators.Group.{Group}
 use Rattle.px_rules.specs.declared.operators.Group.TheVariants as group
-use Rattle.px_rules.specs.Types.{is_unknown, is_void, is_null, is_number, is_boolean, is_text, is_reference, same}
+use Rattle.px_facts.specs.Types.{is_unknown, is_void, is_null, is_number, is_boolean, is_text, is_reference, same}
 
 -- unary numeric promotion (JLS 5.6.1)
 abbrev pub promoted : Ty → Ty

@@ -2,12 +2,12 @@
 use Rattle.std.specs.Prelude.{ℕ, ◌+◌, ◌-◌, true, not, List, [], ◌∷◌, ◌++◌, length, Option, None, nat_lt, codes, if◌then◌else◌}
 use Rattle.std.specs.Str.{bytes_eq}
 use Rattle.px_lex.specs.declared.token.Token.{Token}
-use Rattle.px_grammar.specs.declared.tree.Program.{Program}
-use Rattle.px_grammar.specs.declared.tree.Class.{Class}
-use Rattle.px_grammar.specs.declared.tree.FieldDecl.{FieldDecl}
-use Rattle.px_grammar.specs.declared.tree.Method.{Method}
-use Rattle.px_grammar.specs.declared.tree.Member.{Member}
-use Rattle.px_grammar.specs.declared.tree.Member.TheVariants as member
+use Rattle.px_tree.specs.declared.Program.{Program}
+use Rattle.px_tree.specs.declared.Class.{Class}
+use Rattle.px_tree.specs.declared.FieldDecl.{FieldDecl}
+use Rattle.px_tree.specs.declared.Method.{Method}
+use Rattle.px_tree.specs.declared.Member.{Member}
+use Rattle.px_tree.specs.declared.Member.TheVariants as member
 use Rattle.px_rules.specs.declared.breach.Breach.{Breach}
 use Rattle.px_rules.specs.declared.report.Report.{Report}
 use Rattle.px_rules.specs.declared.table.Table.{Table}

@@ -1,9 +1,9 @@
 -- The parameters and locals in scope (JLS 6.3, 6.4).
 use Rattle.std.specs.Prelude.{ℕ, List, ◌++◌, Option, Some, None, length, take, nat_lt, slice_get, if◌then◌else◌}
 use Rattle.std.specs.Option.{option_map}
-use Rattle.px_grammar.specs.declared.tree.Name.{Name}
-use Rattle.px_rules.specs.declared.types.Ty.{Ty}
-use Rattle.px_rules.specs.declared.types.Ty.TheVariants.{Unknown, Object}
+use Rattle.px_tree.specs.declared.Name.{Name}
+use Rattle.px_facts.specs.declared.types.Ty.{Ty}
+use Rattle.px_facts.specs.declared.types.Ty.TheVariants.{Unknown, Object}
 use Rattle.px_rules.specs.declared.classes.FieldType.{FieldType}
 use Rattle.px_rules.specs.declared.context.Context.{Context}
 use Rattle.px_rules.specs.declared.locals.Locals.{Locals}

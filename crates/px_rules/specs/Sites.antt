@@ -1,8 +1,8 @@
 -- The numbers of `new` expressions: over the whole program, in the order of the text, from 1.
 use Rattle.std.specs.Prelude.{ℕ, ◌+◌, List, [], ◌∷◌}
-use Rattle.px_rules.specs.declared.checked.Named.{Named}
-use Rattle.px_rules.specs.declared.checked.Named.TheVariants.{NewObject, NewArray}
-use Rattle.px_rules.specs.declared.checked.Fact.{Fact}
+use Rattle.px_facts.specs.declared.checked.Named.{Named}
+use Rattle.px_facts.specs.declared.checked.Named.TheVariants.{NewObject, NewArray}
+use Rattle.px_facts.specs.declared.checked.Fact.{Fact}
 
 abbrev pub with_site : ℕ → Named → Named
 with_site site (NewObject class old) = NewObject class site

@@ -1,7 +1,7 @@
 -- The locals in scope, and the slots of a method (JLS 6.3).
 use Rattle.std.specs.Prelude.{ℕ, List, [], ◌∷◌, ◌++◌, Option, length, take}
-use Rattle.px_rules.specs.declared.types.Ty.{Ty}
-use Rattle.px_rules.specs.declared.types.Ty.TheVariants.{Object}
+use Rattle.px_facts.specs.declared.types.Ty.{Ty}
+use Rattle.px_facts.specs.declared.types.Ty.TheVariants.{Object}
 use Rattle.px_rules.specs.declared.scope.Slot.{Slot}
 use Rattle.px_rules.specs.declared.scope.Scope.{Scope}
 use Rattle.px_rules.specs.Names.{empty, declare, find}

@@ -1,20 +1,20 @@
 -- The rules of statements (JLS 6.3, 14).
 use Rattle.std.specs.Prelude.{ℕ, Bool, true, false, not, ◌||◌, List, [], ◌∷◌, ◌++◌, Option, Some, None, is_none}
-use Rattle.px_grammar.specs.declared.tree.Name.{Name}
-use Rattle.px_grammar.specs.declared.tree.Sign.{Sign}
-use Rattle.px_grammar.specs.declared.tree.TypeName.{TypeName}
-use Rattle.px_grammar.specs.declared.tree.Expr.{Expr}
-use Rattle.px_grammar.specs.declared.tree.ExprForm.{ExprForm, ExprForm-F, out-ExprForm}
-use Rattle.px_grammar.specs.declared.tree.ExprForm.TheOpen.{ExprForm-F as e}
-use Rattle.px_grammar.specs.declared.tree.Stmt.{Stmt, Stmt-F, fold-Stmt}
-use Rattle.px_grammar.specs.declared.tree.StmtForm.{StmtForm, StmtForm-F, fold-StmtForm}
-use Rattle.px_grammar.specs.declared.tree.StmtForm.TheOpen.{StmtForm-F as st}
-use Rattle.px_rules.specs.declared.types.Ty.{Ty}
-use Rattle.px_rules.specs.declared.types.Ty.TheVariants.{Unknown, Boolean}
+use Rattle.px_tree.specs.declared.Name.{Name}
+use Rattle.px_tree.specs.declared.Sign.{Sign}
+use Rattle.px_tree.specs.declared.TypeName.{TypeName}
+use Rattle.px_tree.specs.declared.Expr.{Expr}
+use Rattle.px_tree.specs.declared.ExprForm.{ExprForm, ExprForm-F, out-ExprForm}
+use Rattle.px_tree.specs.declared.ExprForm.TheOpen.{ExprForm-F as e}
+use Rattle.px_tree.specs.declared.Stmt.{Stmt, Stmt-F, fold-Stmt}
+use Rattle.px_tree.specs.declared.StmtForm.{StmtForm, StmtForm-F, fold-StmtForm}
+use Rattle.px_tree.specs.declared.StmtForm.TheOpen.{StmtForm-F as st}
+use Rattle.px_facts.specs.declared.types.Ty.{Ty}
+use Rattle.px_facts.specs.declared.types.Ty.TheVariants.{Unknown, Boolean}
 use Rattle.px_rules.specs.declared.context.Context.{Context}
 use Rattle.px_rules.specs.declared.locals.Locals.{Locals}
 use Rattle.px_rules.specs.Breaches.{Note, breach_if}
-use Rattle.px_rules.specs.Types.{is_unknown, is_void, is_number, is_array, is_printable, fits}
+use Rattle.px_facts.specs.Types.{is_unknown, is_void, is_number, is_array, is_printable, fits}
 use Rattle.px_rules.specs.Operators.{group_of, compound_fits}
 use Rattle.px_rules.specs.Members.{type_of, names_no_class}
 use Rattle.px_rules.specs.Scopes.{with_local, all_usable, left, local_notes, local_type, or_unknown}

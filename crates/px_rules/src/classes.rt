@@ -1,7 +1,7 @@
 //! The classes of a program, and their members by name.
 use crate::table::Table;
-use crate::types::Ty;
-use px_grammar::tree::Access;
+use px_facts::Ty;
+use px_tree::Access;
 use sqlite_items::Items;
 
 #[derive(Clone, Copy, Debug)]

@@ -1,6 +1,6 @@
 //! Where a statement or an expression stands.
 use crate::classes::Classes;
-use crate::types::Ty;
+use px_facts::Ty;
 
 /// The program's classes, and the class and the method in which something stands.
 #[derive(Drop)]

@@ -10,8 +10,8 @@ use crate::members::{check_base, result_type, type_of};
 use crate::names::is_reserved;
 use crate::report::Report;
 use crate::table::Table;
-use crate::types::Ty;
-use px_grammar::tree::{Access, Class, FieldDecl, Member, Method, Param};
+use px_facts::Ty;
+use px_tree::{Access, Class, FieldDecl, Member, Method, Param};
 use sqlite_items::Items;
 use std::alloc::{AllocError, Global};
 

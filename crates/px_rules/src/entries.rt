@@ -8,8 +8,8 @@ ghost use Rattle.px_rules.specs.Programs as programs;
 use crate::members::{result_type, type_of};
 use crate::report::Report;
 use crate::table::Table;
-use crate::types::Ty;
-use px_grammar::tree::{Access, Class, Member, Method, Param};
+use px_facts::Ty;
+use px_tree::{Access, Class, Member, Method, Param};
 
 /// There is a class Main, and its entries have types that a job has values of. `end` is the last token.
 #[tactic(auto, using(crate::proofs::Notes::after_append))]

@@ -1,6 +1,6 @@
 //! The types of expressions, and the rules that they break.
 ghost use Rattle.std.specs.Prelude.{◌≡◌, map, slice_index_or};
-ghost use Rattle.px_rules.specs.declared.types.Ty as Ty;
+ghost use Rattle.px_facts.specs.declared.types.Ty as Ty;
 ghost use Rattle.px_rules.specs.Breaches.{after};
 ghost use Rattle.px_rules.specs.Scopes as scopes;
 ghost use Rattle.px_rules.specs.Expressions as expressions;
@@ -14,8 +14,8 @@ use crate::operators::{
     compares_texts, group_of, group_type, is_minus, operands_fit, prefix_fits, prefix_type,
 };
 use crate::report::Report;
-use crate::types::{Ty, fits};
-use px_grammar::tree::{Expr, ExprForm, Name, Sign};
+use px_facts::{Ty, fits};
+use px_tree::{Expr, ExprForm, Name, Sign};
 
 const MAX_TEXT: usize = 500;
 

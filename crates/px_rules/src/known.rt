@@ -2,15 +2,15 @@
 ghost use Rattle.std.specs.Prelude.{◌≡◌, ◌++◌, map, IfOk, OnOk};
 ghost use Rattle.px_rules.specs.Known.{known, known_form, all_facts, argument_facts};
 
-use crate::checked::{Fact, Named};
+use px_facts::{Fact, Named};
 use crate::home::Home;
 use crate::literal::literal_type;
 use crate::lookup::{new_array_fact, typed_only};
 use crate::members::base_type;
 use crate::operators::{group_of, group_type, prefix_type};
 use crate::scope::Scope;
-use crate::types::Ty;
-use px_grammar::tree::{Expr, ExprForm};
+use px_facts::Ty;
+use px_tree::{Expr, ExprForm};
 use sqlite_items::Items;
 use std::alloc::AllocError;
 

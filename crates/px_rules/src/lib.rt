@@ -3,7 +3,6 @@
 
 mod bodies;
 mod breach;
-mod checked;
 mod classes;
 mod context;
 mod declare;
@@ -28,15 +27,12 @@ mod sites;
 mod statement;
 mod table;
 mod told;
-mod types;
 mod values;
 mod verdict;
 
 pub use breach::Breach;
-pub use checked::{Checked, ClassFact, Entry, Fact, Facts, Main, MethodFact, Named};
 pub use error::CheckError;
 pub use program::first_breach;
-pub use types::{Element, Ty};
 pub use verdict::check;
 
 #[cfg(test)]

@@ -2,7 +2,7 @@
 ghost use Rattle.std.specs.Prelude.{◌≡◌, nat_le};
 ghost use Rattle.px_rules.specs.Literals as literals;
 
-use crate::types::Ty;
+use px_facts::Ty;
 
 pub fn literal_type(long: bool) -> Ty
     ensures { result ≡ literals.literal_type long }

@@ -7,8 +7,8 @@ ghost use Rattle.px_rules.specs.Breaches.{after};
 use crate::names::is_reserved;
 use crate::report::Report;
 use crate::table::Table;
-use crate::types::Ty;
-use px_grammar::tree::Name;
+use px_facts::Ty;
+use px_tree::Name;
 use std::alloc::{AllocError, Global};
 
 /// The parameters and locals in scope, the oldest first.

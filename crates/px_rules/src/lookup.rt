@@ -3,11 +3,11 @@ ghost use Rattle.std.specs.Prelude.{◌≡◌, IfOk};
 ghost use Rattle.px_rules.specs.Facts as facts;
 ghost use Rattle.px_rules.specs.Slots.{slot_of};
 
-use crate::checked::{Fact, Named};
+use px_facts::{Fact, Named};
 use crate::home::Home;
 use crate::numbers::{narrow, sum};
 use crate::scope::{Scope, Slot};
-use crate::types::Ty;
+use px_facts::Ty;
 use sqlite_items::at;
 use std::alloc::AllocError;
 

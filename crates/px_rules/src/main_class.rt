@@ -2,12 +2,12 @@
 ghost use Rattle.std.specs.Prelude.{◌≡◌, ◌++◌, map, IfOk, OnOk};
 ghost use Rattle.px_rules.specs.Entries as specs;
 
-use crate::checked::{Entry, Main};
+use px_facts::{Entry, Main};
 use crate::members::{result_type, type_of};
 use crate::numbers::{narrow, sum};
 use crate::table::Table;
-use crate::types::Ty;
-use px_grammar::tree::{Access, Class, Member, Method, Param};
+use px_facts::Ty;
+use px_tree::{Access, Class, Member, Method, Param};
 use px_value::Text;
 use sqlite_items::{Items, at};
 use std::alloc::{AllocError, Global};

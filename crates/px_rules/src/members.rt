@@ -9,8 +9,8 @@ ghost use Rattle.px_rules.specs.Breaches.{after};
 use crate::classes::{Classes, FieldType, Members, MethodType};
 use crate::report::Report;
 use crate::table::Table;
-use crate::types::Ty;
-use px_grammar::tree::{Access, Base, Name, TypeName};
+use px_facts::Ty;
+use px_tree::{Access, Base, Name, TypeName};
 
 pub fn class_type(numbers: &Table<usize>, name: &[u8]) -> Ty
     ensures { result ≡ members.class_type (names.find name.now numbers.now) }

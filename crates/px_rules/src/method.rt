@@ -9,7 +9,7 @@ use crate::locals::Locals;
 use crate::members::{check_base, result_type, type_of};
 use crate::report::Report;
 use crate::table::Table;
-use px_grammar::tree::{Method, Param, TypeName};
+use px_tree::{Method, Param, TypeName};
 use std::alloc::{AllocError, Global};
 
 const MAX_TOKENS: u32 = 10000;

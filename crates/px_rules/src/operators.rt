@@ -2,8 +2,8 @@
 ghost use Rattle.std.specs.Prelude.{◌≡◌};
 ghost use Rattle.px_rules.specs.Operators as operators;
 
-use crate::types::{Ty, same};
-use px_grammar::tree::Sign;
+use px_facts::{Ty, same};
+use px_tree::Sign;
 
 /// Binary operators that take the same operands.
 #[derive(Clone, Copy, Debug, PartialEq, Eq)]

@@ -9,8 +9,8 @@ use crate::context::Context;
 use crate::declare::declare_classes;
 use crate::entries::check_main;
 use crate::report::Report;
-use crate::types::Ty;
-use px_grammar::tree::{Class, Member, Program};
+use px_facts::Ty;
+use px_tree::{Class, Member, Program};
 use px_lex::Token;
 use std::alloc::{AllocError, Global};
 

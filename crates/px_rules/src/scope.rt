@@ -5,7 +5,7 @@ ghost use Rattle.px_rules.specs.Slots as slots;
 
 use crate::numbers::narrow;
 use crate::table::Table;
-use crate::types::Ty;
+use px_facts::Ty;
 use sqlite_items::Items;
 use std::alloc::{AllocError, Global};
 

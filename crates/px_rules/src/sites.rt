@@ -2,7 +2,7 @@
 ghost use Rattle.std.specs.Prelude.{◌≡◌, IfOk};
 ghost use Rattle.px_rules.specs.Sites as sites;
 
-use crate::checked::{Fact, Named};
+use px_facts::{Fact, Named};
 use crate::numbers::sum;
 use sqlite_items::Items;
 use std::alloc::{AllocError, Global};

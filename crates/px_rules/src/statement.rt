@@ -13,8 +13,8 @@ use crate::locals::Locals;
 use crate::members::{check_base, type_of};
 use crate::operators::{compound_fits, group_of};
 use crate::report::Report;
-use crate::types::{Ty, fits};
-use px_grammar::tree::{Expr, ExprForm, Name, Sign, Stmt, StmtForm, TypeName};
+use px_facts::{Ty, fits};
+use px_tree::{Expr, ExprForm, Name, Sign, Stmt, StmtForm, TypeName};
 use sqlite_items::Boxed;
 use std::alloc::{AllocError, Global};
 

@@ -1,5 +1,5 @@
 use crate::{Breach, CheckError, Checked, Fact, Named, Ty, check, first_breach};
-use px_grammar::tree::{
+use px_tree::{
     Access, Base, Class, Expr, ExprForm, FieldDecl, Member, Method, Name, Param, Program, Sign,
     Stmt, StmtForm, TypeName,
 };

@@ -6,13 +6,13 @@ ghost use Rattle.px_rules.specs.Known.{known, all_facts};
 ghost use Rattle.px_rules.specs.Told as specs;
 ghost use Rattle.px_rules.specs.Told.{told};
 
-use crate::checked::{Fact, Named};
+use px_facts::{Fact, Named};
 use crate::home::Home;
 use crate::lookup::{changed_fact, local_fact};
 use crate::members::type_of;
 use crate::scope::Scope;
-use crate::types::Ty;
-use px_grammar::tree::{Expr, Name, Stmt, StmtForm, TypeName};
+use px_facts::Ty;
+use px_tree::{Expr, Name, Stmt, StmtForm, TypeName};
 use sqlite_items::{Boxed, Items};
 use std::alloc::{AllocError, Global};
 

@@ -4,7 +4,7 @@ ghost use Rattle.std.specs.Prelude.{◌<◌, ◌^◌, length};
 use crate::error::ReadError;
 use crate::source::Source;
 use crate::tokens::Tokens;
-use crate::tree::{Expr, ExprForm, Sign, Stmt, StmtForm};
+use px_tree::{Expr, ExprForm, Sign, Stmt, StmtForm};
 use crate::word::lexemes;
 use sqlite_items::Boxed;
 use std::alloc::Global;

@@ -1,5 +1,5 @@
 //! What hangs on what, and the numbers of nodes.
-use crate::tree::{ExprForm, Member, StmtForm};
+use px_tree::{ExprForm, Member, StmtForm};
 use crate::{ParseError, parse};
 
 #[test]

@@ -1,5 +1,5 @@
 use Rattle.std.proofs.Common.{ℕ, Result, Err, Some, ap}
-use Rattle.px_grammar.specs.declared.tree.Program.{Program}
+use Rattle.px_tree.specs.declared.Program.{Program}
 use Rattle.px_grammar.specs.declared.error.ParseError.{ParseError}
 use Rattle.px_main.specs.declared.fault.ProgramCode.TheVariants.{Syntax}
 use Rattle.px_main.specs.Whole.{fault_at, ungrammatical, grammatical}

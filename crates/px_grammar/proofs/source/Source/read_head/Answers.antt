@@ -1,6 +1,6 @@
 use Rattle.std.proofs.Common.{◌∙◌, ap}
 use Rattle.px_grammar.specs.Reading.{Reads}
-use Rattle.px_grammar.specs.declared.tree.Expr.{Expr}
+use Rattle.px_tree.specs.declared.Expr.{Expr}
 use Rattle.px_grammar.proofs.Leading.{leads_as, other_primary}
 use Rattle.px_grammar.proofs.source.Source.read_head.Goals as goal
 

@@ -1,8 +1,8 @@
 use Rattle.std.proofs.Common.{[], ◌∷◌, ◌++◌, false, map, not, sym, ap, ◌∙◌}
-use Rattle.px_grammar.specs.declared.tree.ExprForm.TheVariants.{Call}
-use Rattle.px_rules.specs.declared.types.Ty.TheVariants.{Int}
+use Rattle.px_tree.specs.declared.ExprForm.TheVariants.{Call}
+use Rattle.px_facts.specs.declared.types.Ty.TheVariants.{Int}
 use Rattle.px_rules.specs.Breaches.{New, breach_if, after}
-use Rattle.px_rules.specs.Types.{array_of, fits}
+use Rattle.px_facts.specs.Types.{array_of, fits}
 use Rattle.px_rules.specs.Members.{names_no_class}
 use Rattle.px_rules.specs.Expressions.{Typed, typed, of_type, index, call, binary}
 use Rattle.px_rules.proofs.Notes.{and_then}

@@ -1,7 +1,7 @@
 use Rattle.std.proofs.Common.{◌++◌, true, false, take, sym, ap, ◌∙◌}
 use Rattle.std.specs.Option.{option_map}
 use Rattle.px_rules.specs.Breaches.{after}
-use Rattle.px_rules.specs.Types.{is_printable}
+use Rattle.px_facts.specs.Types.{is_printable}
 use Rattle.px_rules.specs.Expressions.{misfit, typed}
 use Rattle.px_rules.specs.Statements.{Judged, judged, condition, otherwise}
 use Rattle.px_rules.proofs.Notes.{and_then}

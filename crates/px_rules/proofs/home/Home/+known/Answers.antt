@@ -1,7 +1,7 @@
 use Rattle.std.proofs.Common.{◌≡◌, List, [], ◌∷◌, ◌++◌, Some, map, sym, ap, ◌∙◌, slice_set}
-use Rattle.px_grammar.specs.declared.tree.ExprForm.TheVariants.{Call}
-use Rattle.px_rules.specs.declared.checked.Fact.{Fact}
-use Rattle.px_rules.specs.Types.{indexed}
+use Rattle.px_tree.specs.declared.ExprForm.TheVariants.{Call}
+use Rattle.px_facts.specs.declared.checked.Fact.{Fact}
+use Rattle.px_facts.specs.Types.{indexed}
 use Rattle.px_rules.specs.Operators.{group_of, group_type}
 use Rattle.px_rules.specs.Facts.{typed_only, method_fact, variable_fact, new_fact}
 use Rattle.px_rules.specs.Known.{Known, known, known_form, all_facts, argument_facts}

@@ -1,6 +1,6 @@
 //! What is known of a program that keeps the type rules.
 use crate::types::Ty;
-use px_grammar::tree::Program;
+use px_tree::Program;
 use px_value::Text;
 use sqlite_items::Items;
 

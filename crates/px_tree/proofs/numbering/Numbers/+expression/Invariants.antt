@@ -1,8 +1,8 @@
 use Rattle.std.proofs.Common.{◌≡◌, ◌≤◌, ◌+◌, ◌*◌, map, reverse, length, option_map}
-use Rattle.px_grammar.specs.Numbering.{in_order, numbered_expression}
-use Rattle.px_grammar.proofs.Sizes.{total, size_if, size_of, size_of_form}
-use Rattle.px_grammar.proofs.Numbers.{joined}
-use Rattle.px_grammar.proofs.numbering.Numbers.+expression.Given as goal
+use Rattle.px_tree.specs.Numbering.{in_order, numbered_expression}
+use Rattle.px_tree.proofs.Sizes.{total, size_if, size_of, size_of_form}
+use Rattle.px_tree.proofs.Numbers.{joined}
+use Rattle.px_tree.proofs.numbering.Numbers.+expression.Given as goal
 
 abbrev pub decreases-expression : goal.decreases-expression
 decreases-expression l = 4 * size_of l.e

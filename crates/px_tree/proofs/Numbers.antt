@@ -2,19 +2,19 @@
 use Rattle.std.proofs.Common.{◌≡◌, ℕ, ◌+◌, Bool, List, [], ◌∷◌, ◌++◌, map, reverse, Option, Some, None, option_map, Result, Ok, Err, IfOk, refl, sym, ap, ◌∙◌, append_assoc}
 use Rattle.std.proofs.lemmas.List.{append-nil, reverse-append, reverse-reverse}
 use Rattle.std.specs.declared.alloc.AllocError.{AllocError}
-use Rattle.px_grammar.specs.declared.tree.Sign.{Sign}
-use Rattle.px_grammar.specs.declared.tree.Base.{Base}
-use Rattle.px_grammar.specs.declared.tree.Name.{Name as NameData}
-use Rattle.px_grammar.specs.declared.tree.TypeName.{TypeName}
-use Rattle.px_grammar.specs.declared.tree.Expr.{Expr, fold_out-Expr}
-use Rattle.px_grammar.specs.declared.tree.ExprForm.{ExprForm, ExprForm-F, fold-roll-ExprForm, roll-ExprForm, map-ExprForm}
-use Rattle.px_grammar.specs.declared.tree.ExprForm.TheVariants.{Number, Str, True, False, Null, This, Name, Group, Field, Index, Call, NewObject, NewArray, Prefix, Binary, rolls-Number, rolls-Str, rolls-True, rolls-False, rolls-Null, rolls-This, rolls-Name, rolls-Group, rolls-Field, rolls-Index, rolls-Call, rolls-NewObject, rolls-NewArray, rolls-Prefix, rolls-Binary}
-use Rattle.px_grammar.specs.declared.tree.ExprForm.TheOpen.{ExprForm-F as e}
-use Rattle.px_grammar.specs.declared.tree.Stmt.{Stmt, fold_out-Stmt}
-use Rattle.px_grammar.specs.declared.tree.StmtForm.{StmtForm, StmtForm-F, fold-roll-StmtForm, roll-StmtForm, map-StmtForm}
-use Rattle.px_grammar.specs.declared.tree.StmtForm.TheVariants.{Block, Empty, Local, Assign, Compound, Up, Down, Call as CallStmt, If, While, For, Return, Print, rolls-Block, rolls-Empty, rolls-Local, rolls-Assign, rolls-Compound, rolls-Up, rolls-Down, rolls-Call as rolls-CallStmt, rolls-If, rolls-While, rolls-For, rolls-Return, rolls-Print}
-use Rattle.px_grammar.specs.declared.tree.StmtForm.TheOpen.{StmtForm-F as s}
-use Rattle.px_grammar.specs.Numbering.{Numbering, ◌>>=◌, pure, fresh, in_order, number_if, number_expression_form, number_expression, numbered_expression, numbered_expression_form, number_returned, number_statement_form, number_statement, numbered_statement, numbered_statement_form}
+use Rattle.px_tree.specs.declared.Sign.{Sign}
+use Rattle.px_tree.specs.declared.Base.{Base}
+use Rattle.px_tree.specs.declared.Name.{Name as NameData}
+use Rattle.px_tree.specs.declared.TypeName.{TypeName}
+use Rattle.px_tree.specs.declared.Expr.{Expr, fold_out-Expr}
+use Rattle.px_tree.specs.declared.ExprForm.{ExprForm, ExprForm-F, fold-roll-ExprForm, roll-ExprForm, map-ExprForm}
+use Rattle.px_tree.specs.declared.ExprForm.TheVariants.{Number, Str, True, False, Null, This, Name, Group, Field, Index, Call, NewObject, NewArray, Prefix, Binary, rolls-Number, rolls-Str, rolls-True, rolls-False, rolls-Null, rolls-This, rolls-Name, rolls-Group, rolls-Field, rolls-Index, rolls-Call, rolls-NewObject, rolls-NewArray, rolls-Prefix, rolls-Binary}
+use Rattle.px_tree.specs.declared.ExprForm.TheOpen.{ExprForm-F as e}
+use Rattle.px_tree.specs.declared.Stmt.{Stmt, fold_out-Stmt}
+use Rattle.px_tree.specs.declared.StmtForm.{StmtForm, StmtForm-F, fold-roll-StmtForm, roll-StmtForm, map-StmtForm}
+use Rattle.px_tree.specs.declared.StmtForm.TheVariants.{Block, Empty, Local, Assign, Compound, Up, Down, Call as CallStmt, If, While, For, Return, Print, rolls-Block, rolls-Empty, rolls-Local, rolls-Assign, rolls-Compound, rolls-Up, rolls-Down, rolls-Call as rolls-CallStmt, rolls-If, rolls-While, rolls-For, rolls-Return, rolls-Print}
+use Rattle.px_tree.specs.declared.StmtForm.TheOpen.{StmtForm-F as s}
+use Rattle.px_tree.specs.Numbering.{Numbering, ◌>>=◌, pure, fresh, in_order, number_if, number_expression_form, number_expression, numbered_expression, numbered_expression_form, number_returned, number_statement_form, number_statement, numbered_statement, numbered_statement_form}
 
 -- ---- expressions
 

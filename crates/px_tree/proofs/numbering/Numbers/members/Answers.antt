@@ -1,7 +1,7 @@
 use Rattle.std.proofs.Common.{◌∙◌}
-use Rattle.px_grammar.specs.Numbering.{numbered_member}
-use Rattle.px_grammar.proofs.Numbers.{joined_start, joined_turn}
-use Rattle.px_grammar.proofs.numbering.Numbers.members.Goals as goal
+use Rattle.px_tree.specs.Numbering.{numbered_member}
+use Rattle.px_tree.proofs.Numbers.{joined_start, joined_turn}
+use Rattle.px_tree.proofs.numbering.Numbers.members.Goals as goal
 
 pub loop-member-init : goal.loop-member-init
 loop-member-init c = joined_start numbered_member c.args.members c.in_ok-left.left c.new-numbered.result c.args.self.now.next c.in_ok-left.ensures c.new-numbered.ensures

@@ -1,6 +1,11 @@
 //! The syntax tree of a program. `token` is the number of a node's first token, from 0.
 //! Each statement and expression has a number `id` in order of its first token, an outer one
 //! before an inner one.
+#![tactic(auto)]
+
+mod numbering;
+
+pub use numbering::number;
 
 use px_lex::Token;
 use sqlite_items::{Boxed, Items};

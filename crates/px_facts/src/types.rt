@@ -1,6 +1,6 @@
 //! Static types.
 ghost use Rattle.std.specs.Prelude.{◌≡◌};
-ghost use Rattle.px_rules.specs.Types as types;
+ghost use Rattle.px_facts.specs.Types as types;
 
 /// The type of an array's elements.
 #[derive(Clone, Copy, Debug, PartialEq, Eq)]

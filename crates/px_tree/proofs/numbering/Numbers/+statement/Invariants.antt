@@ -1,8 +1,8 @@
 use Rattle.std.proofs.Common.{◌≡◌, ◌≤◌, ◌+◌, ◌*◌, map, reverse, length, option_map}
-use Rattle.px_grammar.specs.Numbering.{in_order, numbered_statement}
-use Rattle.px_grammar.proofs.Sizes.{total, size_if, statement_size, statement_size_of_form}
-use Rattle.px_grammar.proofs.Numbers.{joined}
-use Rattle.px_grammar.proofs.numbering.Numbers.+statement.Given as goal
+use Rattle.px_tree.specs.Numbering.{in_order, numbered_statement}
+use Rattle.px_tree.proofs.Sizes.{total, size_if, statement_size, statement_size_of_form}
+use Rattle.px_tree.proofs.Numbers.{joined}
+use Rattle.px_tree.proofs.numbering.Numbers.+statement.Given as goal
 
 abbrev pub decreases-statement : goal.decreases-statement
 decreases-statement l = 5 * statement_size l.s

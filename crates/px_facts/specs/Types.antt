@@ -1,9 +1,9 @@
 -- Static types (JLS 4), and the values that fit them.
 use Rattle.std.specs.Prelude.{Bool, true, false, nat_eq}
-use Rattle.px_rules.specs.declared.types.Element.{Element}
-use Rattle.px_rules.specs.declared.types.Element.TheVariants as element
-use Rattle.px_rules.specs.declared.types.Ty.{Ty}
-use Rattle.px_rules.specs.declared.types.Ty.TheVariants.{Unknown, Void, Null, Int, Long, Boolean, Text, Object, Array}
+use Rattle.px_facts.specs.declared.types.Element.{Element}
+use Rattle.px_facts.specs.declared.types.Element.TheVariants as element
+use Rattle.px_facts.specs.declared.types.Ty.{Ty}
+use Rattle.px_facts.specs.declared.types.Ty.TheVariants.{Unknown, Void, Null, Int, Long, Boolean, Text, Object, Array}
 
 abbrev pub is_unknown : Ty → Bool
 is_unknown Unknown = true

@@ -1,7 +1,7 @@
 use Rattle.std.proofs.Common.{◌∙◌}
-use Rattle.px_grammar.specs.Numbering.{numbered_class}
-use Rattle.px_grammar.proofs.Numbers.{joined_start, joined_turn}
-use Rattle.px_grammar.proofs.numbering.Numbers.classes.Goals as goal
+use Rattle.px_tree.specs.Numbering.{numbered_class}
+use Rattle.px_tree.proofs.Numbers.{joined_start, joined_turn}
+use Rattle.px_tree.proofs.numbering.Numbers.classes.Goals as goal
 
 pub loop-class-init : goal.loop-class-init
 loop-class-init c = joined_start numbered_class c.args.classes c.in_ok-left.left c.new-numbered.result c.args.self.now.next c.in_ok-left.ensures c.new-numbered.ensures

@@ -1,9 +1,9 @@
 use Rattle.std.proofs.Common.{map, option_map, ap, ◌∙◌, arith}
-use Rattle.px_grammar.specs.declared.tree.StmtForm.TheVariants.{Block, Local, Assign, Compound, Call, If, While, For, Return, Print}
-use Rattle.px_grammar.specs.Numbering.{in_order, number_if, number_returned, numbered_expression, numbered_statement, numbered_statement_form}
-use Rattle.px_grammar.proofs.Sizes.{total, statement_size, statement_size_of_form, statement_size_of_its_form, block_size, if_size, while_size, for_size, total_reverse, total_last}
-use Rattle.px_grammar.proofs.Numbers.{of_block, of_empty, of_local, of_assign, of_compound, of_up, of_down, of_call_statement, of_if, of_while, of_for, of_return, of_print, no_part, one_part, two_parts, three_parts, four_parts, a_statement, same_form, joined_start, joined_turn}
-use Rattle.px_grammar.proofs.numbering.Numbers.+statement.Goals as goal
+use Rattle.px_tree.specs.declared.StmtForm.TheVariants.{Block, Local, Assign, Compound, Call, If, While, For, Return, Print}
+use Rattle.px_tree.specs.Numbering.{in_order, number_if, number_returned, numbered_expression, numbered_statement, numbered_statement_form}
+use Rattle.px_tree.proofs.Sizes.{total, statement_size, statement_size_of_form, statement_size_of_its_form, block_size, if_size, while_size, for_size, total_reverse, total_last}
+use Rattle.px_tree.proofs.Numbers.{of_block, of_empty, of_local, of_assign, of_compound, of_up, of_down, of_call_statement, of_if, of_while, of_for, of_return, of_print, no_part, one_part, two_parts, three_parts, four_parts, a_statement, same_form, joined_start, joined_turn}
+use Rattle.px_tree.proofs.numbering.Numbers.+statement.Goals as goal
 
 pub items-loop-item-init : goal.items-loop-item-init
 items-loop-item-init t c =

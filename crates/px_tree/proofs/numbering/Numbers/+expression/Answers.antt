@@ -1,9 +1,9 @@
 use Rattle.std.proofs.Common.{map, option_map, ap, ◌∙◌, arith}
-use Rattle.px_grammar.specs.declared.tree.ExprForm.TheVariants.{Group, Field, Index, Call, NewArray, Prefix, Binary}
-use Rattle.px_grammar.specs.Numbering.{in_order, number_if, numbered_expression, numbered_expression_form}
-use Rattle.px_grammar.proofs.Sizes.{total, size_of, size_of_form, size_of_its_form, group_size, field_size, index_size, call_size, array_size, prefix_size, binary_size, total_reverse, total_last}
-use Rattle.px_grammar.proofs.Numbers.{of_number, of_text, of_true, of_false, of_null, of_this, of_name, of_group, of_field, of_index, of_call, of_object, of_array, of_prefix, of_binary, no_part, one_part, two_parts, an_expression, joined_start, joined_turn}
-use Rattle.px_grammar.proofs.numbering.Numbers.+expression.Goals as goal
+use Rattle.px_tree.specs.declared.ExprForm.TheVariants.{Group, Field, Index, Call, NewArray, Prefix, Binary}
+use Rattle.px_tree.specs.Numbering.{in_order, number_if, numbered_expression, numbered_expression_form}
+use Rattle.px_tree.proofs.Sizes.{total, size_of, size_of_form, size_of_its_form, group_size, field_size, index_size, call_size, array_size, prefix_size, binary_size, total_reverse, total_last}
+use Rattle.px_tree.proofs.Numbers.{of_number, of_text, of_true, of_false, of_null, of_this, of_name, of_group, of_field, of_index, of_call, of_object, of_array, of_prefix, of_binary, no_part, one_part, two_parts, an_expression, joined_start, joined_turn}
+use Rattle.px_tree.proofs.numbering.Numbers.+expression.Goals as goal
 
 pub expressions-loop-e-init : goal.expressions-loop-e-init
 expressions-loop-e-init t c =

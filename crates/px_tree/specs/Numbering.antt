@@ -1,16 +1,16 @@
 -- Numbers of statements and expressions, in the order of the text, an outer one before an inner one.
 use Rattle.std.specs.Prelude.{ℕ, ◌+◌, List, [], ◌∷◌, Option, Some, None, option_map, map}
-use Rattle.px_grammar.specs.declared.tree.Expr.{Expr, Expr-F, fold-Expr}
-use Rattle.px_grammar.specs.declared.tree.ExprForm.{ExprForm, ExprForm-F, fold-ExprForm}
-use Rattle.px_grammar.specs.declared.tree.ExprForm.TheVariants.{Number, Str, True, False, Null, This, Name, Group, Field, Index, Call, NewObject, NewArray, Prefix, Binary}
-use Rattle.px_grammar.specs.declared.tree.ExprForm.TheOpen.{ExprForm-F as e}
-use Rattle.px_grammar.specs.declared.tree.Stmt.{Stmt, Stmt-F, fold-Stmt}
-use Rattle.px_grammar.specs.declared.tree.StmtForm.{StmtForm, StmtForm-F, fold-StmtForm}
-use Rattle.px_grammar.specs.declared.tree.StmtForm.TheVariants.{Block, Empty, Local, Assign, Compound, Up, Down, Call as CallStmt, If, While, For, Return, Print}
-use Rattle.px_grammar.specs.declared.tree.StmtForm.TheOpen.{StmtForm-F as s}
-use Rattle.px_grammar.specs.declared.tree.Member.{Member}
-use Rattle.px_grammar.specs.declared.tree.Member.TheVariants as member
-use Rattle.px_grammar.specs.declared.tree.Class.{Class}
+use Rattle.px_tree.specs.declared.Expr.{Expr, Expr-F, fold-Expr}
+use Rattle.px_tree.specs.declared.ExprForm.{ExprForm, ExprForm-F, fold-ExprForm}
+use Rattle.px_tree.specs.declared.ExprForm.TheVariants.{Number, Str, True, False, Null, This, Name, Group, Field, Index, Call, NewObject, NewArray, Prefix, Binary}
+use Rattle.px_tree.specs.declared.ExprForm.TheOpen.{ExprForm-F as e}
+use Rattle.px_tree.specs.declared.Stmt.{Stmt, Stmt-F, fold-Stmt}
+use Rattle.px_tree.specs.declared.StmtForm.{StmtForm, StmtForm-F, fold-StmtForm}
+use Rattle.px_tree.specs.declared.StmtForm.TheVariants.{Block, Empty, Local, Assign, Compound, Up, Down, Call as CallStmt, If, While, For, Return, Print}
+use Rattle.px_tree.specs.declared.StmtForm.TheOpen.{StmtForm-F as s}
+use Rattle.px_tree.specs.declared.Member.{Member}
+use Rattle.px_tree.specs.declared.Member.TheVariants as member
+use Rattle.px_tree.specs.declared.Class.{Class}
 
 -- from its first number a numbered tree, and the number after its last
 abbrev pub Numbering : Type 0 → Type 0

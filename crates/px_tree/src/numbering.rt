@@ -1,8 +1,8 @@
 //! Numbers of statements and expressions, once the tree stands.
 ghost use Rattle.std.specs.Prelude.{◌≡◌, ◌+◌, IfOk, OnOk, map, reverse, option_map};
-ghost use Rattle.px_grammar.specs.Numbering.{numbered_expression, numbered_expression_form, numbered_statement, numbered_statement_form, number_if, number_returned, in_order, numbered_member, numbered_class, numbered_classes};
+ghost use Rattle.px_tree.specs.Numbering.{numbered_expression, numbered_expression_form, numbered_statement, numbered_statement_form, number_if, number_returned, in_order, numbered_member, numbered_class, numbered_classes};
 
-use crate::tree::{Class, Expr, ExprForm, Member, Method, Stmt, StmtForm};
+use crate::{Class, Expr, ExprForm, Member, Method, Stmt, StmtForm};
 use sqlite_items::{Boxed, Items};
 use std::alloc::{AllocError, Global};
 

@@ -1,5 +1,5 @@
 use Rattle.std.proofs.Common.{◌≡◌, ◌++◌, reverse, length}
-use Rattle.px_grammar.proofs.numbering.reversed.Given as goal
+use Rattle.px_tree.proofs.numbering.reversed.Given as goal
 
 abbrev pub invariant-loop-item : goal.invariant-loop-item
 invariant-loop-item g l = l.reversed ++ reverse l.items ≡ reverse l.fn.items

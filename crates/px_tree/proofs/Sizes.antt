@@ -1,17 +1,17 @@
 -- How many nodes a tree has, for the measures of functions that walk it.
 use Rattle.std.proofs.Common.{◌≡◌, ℕ, ◌+◌, ◌≤◌, List, [], ◌∷◌, ◌++◌, map, reverse, Option, Some, None, option_map, refl, sym, ap, ◌∙◌, arith}
 use Rattle.std.proofs.lemmas.List.{reverse-append}
-use Rattle.px_grammar.specs.declared.tree.Sign.{Sign}
-use Rattle.px_grammar.specs.declared.tree.Base.{Base}
-use Rattle.px_grammar.specs.declared.tree.Name.{Name as NameData}
-use Rattle.px_grammar.specs.declared.tree.Expr.{Expr, fold-Expr, fold_out-Expr}
-use Rattle.px_grammar.specs.declared.tree.ExprForm.{ExprForm, ExprForm-F, fold-ExprForm, fold-roll-ExprForm, roll-ExprForm, map-ExprForm}
-use Rattle.px_grammar.specs.declared.tree.ExprForm.TheVariants.{Group, Field, Index, Call, NewArray, Prefix, Binary, rolls-Group, rolls-Field, rolls-Index, rolls-Call, rolls-NewArray, rolls-Prefix, rolls-Binary}
-use Rattle.px_grammar.specs.declared.tree.ExprForm.TheOpen.{ExprForm-F as e}
-use Rattle.px_grammar.specs.declared.tree.Stmt.{Stmt, fold-Stmt, fold_out-Stmt}
-use Rattle.px_grammar.specs.declared.tree.StmtForm.{StmtForm, StmtForm-F, fold-StmtForm, fold-roll-StmtForm, roll-StmtForm, map-StmtForm}
-use Rattle.px_grammar.specs.declared.tree.StmtForm.TheVariants.{Block, If, While, For, rolls-Block, rolls-If, rolls-While, rolls-For}
-use Rattle.px_grammar.specs.declared.tree.StmtForm.TheOpen.{StmtForm-F as s}
+use Rattle.px_tree.specs.declared.Sign.{Sign}
+use Rattle.px_tree.specs.declared.Base.{Base}
+use Rattle.px_tree.specs.declared.Name.{Name as NameData}
+use Rattle.px_tree.specs.declared.Expr.{Expr, fold-Expr, fold_out-Expr}
+use Rattle.px_tree.specs.declared.ExprForm.{ExprForm, ExprForm-F, fold-ExprForm, fold-roll-ExprForm, roll-ExprForm, map-ExprForm}
+use Rattle.px_tree.specs.declared.ExprForm.TheVariants.{Group, Field, Index, Call, NewArray, Prefix, Binary, rolls-Group, rolls-Field, rolls-Index, rolls-Call, rolls-NewArray, rolls-Prefix, rolls-Binary}
+use Rattle.px_tree.specs.declared.ExprForm.TheOpen.{ExprForm-F as e}
+use Rattle.px_tree.specs.declared.Stmt.{Stmt, fold-Stmt, fold_out-Stmt}
+use Rattle.px_tree.specs.declared.StmtForm.{StmtForm, StmtForm-F, fold-StmtForm, fold-roll-StmtForm, roll-StmtForm, map-StmtForm}
+use Rattle.px_tree.specs.declared.StmtForm.TheVariants.{Block, If, While, For, rolls-Block, rolls-If, rolls-While, rolls-For}
+use Rattle.px_tree.specs.declared.StmtForm.TheOpen.{StmtForm-F as s}
 
 abbrev pub total : List ℕ → ℕ
 total [] = 0

@@ -1,0 +1,8 @@
+//! What is known of a program that keeps the type rules.
+#![tactic(auto)]
+
+mod checked;
+mod types;
+
+pub use checked::{Checked, ClassFact, Entry, Fact, Facts, Main, MethodFact, Named};
+pub use types::{Element, Ty, fits, same};
