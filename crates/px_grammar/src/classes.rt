@@ -8,8 +8,8 @@ use crate::error::ReadError;
 use crate::lexeme::{Lexeme, Word};
 use crate::source::Source;
 use crate::tokens::Tokens;
-use px_tree::{Class, Column, Member, TableDecl};
 use crate::whole::Declared;
+use px_tree::{Class, Column, Member, TableDecl};
 use sqlite_items::Items;
 use std::alloc::AllocError;
 

@@ -11,11 +11,11 @@ use crate::error::{ParseError, ReadError};
 use crate::lexeme::Lexeme;
 use crate::roles::roles;
 use crate::source::Source;
-use px_tree::{Program, number};
 use crate::whole::Declared;
 use crate::word::lexemes;
 use px_accept::first_refused;
 use px_lex::Token;
+use px_tree::{Program, number};
 use sqlite_items::Items;
 use std::alloc::{AllocError, Global};
 
@@ -89,6 +89,27 @@ fn declared(alloc: Global, bytes: &[u8], lexemes: &[Lexeme]) -> Result<Declared,
     }
 }
 
+// The program of a text that is one.
+fn program_of(
+    alloc: Global,
+    bytes: &[u8],
+    tokens: Vec<Token>,
+    lexemes: &[Lexeme],
+) -> Result<Program, AllocError>
+    requires text { IsProgramText bytes.now }
+    requires tokens { tokens.items ≡ tokens_of bytes.now }
+    requires lexemes { lexemes.now ≡ lexemes_of bytes.now (tokens_of bytes.now) }
+    ensures { IfOk result (λ p. IsProgram bytes.now p) }
+{
+    let Declared { tables, classes } = declared(alloc, bytes, lexemes)?;
+    let classes = number(alloc, classes)?;
+    Ok(Program {
+        tables,
+        classes,
+        tokens: Items::from_vec(tokens),
+    })
+}
+
 /// The program of a text. A refusal tells the line of the first token up to which no program begins so, or at which it would nest too deep;
 /// the end of the text is a token too.
 pub fn parse(alloc: Global, bytes: &[u8]) -> Result<Program, ParseError>
@@ -103,14 +124,6 @@ pub fn parse(alloc: Global, bytes: &[u8]) -> Result<Program, ParseError>
     } = judge(alloc, bytes)?;
     match refused {
         Some(line) => Err(ParseError::Syntax { line }),
-        None => {
-            let Declared { tables, classes } = declared(alloc, bytes, &lexemes)?;
-            let classes = number(alloc, classes)?;
-            Ok(Program {
-                tables,
-                classes,
-                tokens: Items::from_vec(tokens),
-            })
-        }
+        None => Ok(program_of(alloc, bytes, tokens, &lexemes)?),
     }
 }

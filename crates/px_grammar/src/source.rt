@@ -4,8 +4,8 @@ ghost use Rattle.px_grammar.specs.Lexemes.{spelled};
 ghost use Rattle.px_grammar.specs.Trees as spec;
 
 use crate::lexeme::{Lexeme, Word};
-use px_tree::{Base, Expr, ExprForm, Name, TypeName};
 use px_lex::spelling;
+use px_tree::{Base, Expr, ExprForm, Name, TypeName};
 use sqlite_items::Items;
 use std::alloc::{AllocError, Global};
 

@@ -1,5 +1,5 @@
 -- The numbering of each form.
-use Rattle.std.proofs.Common.{◌≡◌, ℕ, ◌+◌, Bool, List, [], ◌∷◌, ◌++◌, map, reverse, Option, Some, None, option_map, Result, Ok, Err, IfOk, refl, sym, ap, ◌∙◌, append_assoc}
+use Rattle.std.proofs.Common.{◌≡◌, ℕ, ◌+◌, Bool, List, [], ◌∷◌, ◌++◌, map, reverse, Option, Some, None, option_map, Result, Ok, Err, IfOk, OnOk, refl, sym, ap, subst, ◌∙◌, append_assoc}
 use Rattle.std.proofs.lemmas.List.{append-nil, reverse-append, reverse-reverse}
 use Rattle.std.specs.declared.alloc.AllocError.{AllocError}
 use Rattle.px_tree.specs.declared.Sign.{Sign}
@@ -14,6 +14,7 @@ use Rattle.px_tree.specs.declared.Stmt.{Stmt, fold_out-Stmt}
 use Rattle.px_tree.specs.declared.StmtForm.{StmtForm, StmtForm-F, fold-roll-StmtForm, roll-StmtForm, map-StmtForm}
 use Rattle.px_tree.specs.declared.StmtForm.TheVariants.{Block, Empty, Local, Assign, Compound, Up, Down, Call as CallStmt, If, While, For, Return, Print, rolls-Block, rolls-Empty, rolls-Local, rolls-Assign, rolls-Compound, rolls-Up, rolls-Down, rolls-Call as rolls-CallStmt, rolls-If, rolls-While, rolls-For, rolls-Return, rolls-Print}
 use Rattle.px_tree.specs.declared.StmtForm.TheOpen.{StmtForm-F as s}
+use Rattle.px_tree.specs.Parts.{Made, with_part, both, if_of, while_of, for_of, statement_of}
 use Rattle.px_tree.specs.Numbering.{Numbering, ◌>>=◌, pure, fresh, in_order, number_if, number_expression_form, number_expression, numbered_expression, numbered_expression_form, number_returned, number_statement_form, number_statement, numbered_statement, numbered_statement_form}
 
 -- ---- expressions
@@ -193,3 +194,60 @@ joined_turn f all front done more x y n m h p q =
 
 pub joined_start : {A : Type 0} (f : A → Numbering A) (items left done : List A) (n : ℕ) → left ≡ reverse items → done ≡ [] → in_order (map f items) n ≡ joined done (in_order (map f (reverse left)) n)
 joined_start f items left done n h k = ap (λ (xs : List _). joined [] (in_order (map f xs) n)) (sym (ap reverse h ∙ reverse-reverse items)) ∙ ap (λ (xs : List _). joined xs (in_order (map f (reverse left)) n)) (sym k)
+
+-- ---- forms of parts that may have failed
+
+with_kept : {A B : Type 0} (P : A → Type 0) (Q : B → Type 0) (r : Made A) (f : A → Made B) → IfOk r P → ((a : A) → P a → IfOk (f a) Q) → IfOk (with_part r f) Q
+with_kept P Q (Ok a) f p k = k a p
+with_kept P Q (Err e) f p k = tt
+
+both_kept : {A B : Type 0} (P : A → Type 0) (Q : B → Type 0) (a : Made A) (b : Made B) → IfOk a P → IfOk b Q → IfOk (both a b) (λ p. P p.0 × Q p.1)
+both_kept P Q (Ok x) (Ok y) p q = (p, q)
+both_kept P Q (Ok x) (Err e) p q = tt
+both_kept P Q (Err e) b p q = tt
+
+pub if_numbered : (test : Expr) (then_part : Stmt) (else_part : Option Stmt) (n m k j : ℕ) (t : Made Expr) (y : Made Stmt) (z : Made (Option Stmt)) (result : Made StmtForm)
+    → IfOk t (λ x. numbered_expression test n ≡ (x, m)) → IfOk y (λ x. numbered_statement then_part m ≡ (x, k)) → IfOk z (λ x. number_if (option_map numbered_statement else_part) k ≡ (x, j)) → result ≡ if_of t y z
+    → IfOk result (λ x. numbered_statement_form (If test then_part else_part) n ≡ (x, j))
+if_numbered test then_part else_part n m k j t y z result p q r h =
+    let T : Expr → Type 0 = λ x. numbered_expression test n ≡ (x, m) in
+    let Y : Stmt → Type 0 = λ x. numbered_statement then_part m ≡ (x, k) in
+    let Z : Option Stmt → Type 0 = λ x. number_if (option_map numbered_statement else_part) k ≡ (x, j) in
+    let W : StmtForm → Type 0 = λ x. numbered_statement_form (If test then_part else_part) n ≡ (x, j) in
+    subst (λ (o : Made StmtForm). IfOk o W) (sym h)
+    (with_kept (λ (x : Expr × (Stmt × Option Stmt)). T x.0 × (Y x.1.0 × Z x.1.1)) W (both t (both y z)) (λ x. Ok (If x.0 x.1.0 x.1.1))
+    (both_kept T (λ (x : Stmt × Option Stmt). Y x.0 × Z x.1) t (both y z) p (both_kept Y Z y z q r)) (λ x px.
+    three_parts (numbered_statement_form (If test then_part else_part)) (numbered_expression test) (numbered_statement then_part) (number_if (option_map numbered_statement else_part)) (λ u v w. If u v w) n m k j x.0 x.1.0 x.1.1 (of_if test then_part else_part) px.0 px.1.0 px.1.1))
+
+pub while_numbered : (test : Expr) (body : Stmt) (n m k : ℕ) (t : Made Expr) (y : Made Stmt) (result : Made StmtForm)
+    → IfOk t (λ x. numbered_expression test n ≡ (x, m)) → IfOk y (λ x. numbered_statement body m ≡ (x, k)) → result ≡ while_of t y
+    → IfOk result (λ x. numbered_statement_form (While test body) n ≡ (x, k))
+while_numbered test body n m k t y result p q h =
+    let T : Expr → Type 0 = λ x. numbered_expression test n ≡ (x, m) in
+    let Y : Stmt → Type 0 = λ x. numbered_statement body m ≡ (x, k) in
+    let W : StmtForm → Type 0 = λ x. numbered_statement_form (While test body) n ≡ (x, k) in
+    subst (λ (o : Made StmtForm). IfOk o W) (sym h)
+    (with_kept (λ (x : Expr × Stmt). T x.0 × Y x.1) W (both t y) (λ x. Ok (While x.0 x.1)) (both_kept T Y t y p q) (λ x px.
+    two_parts (numbered_statement_form (While test body)) (numbered_expression test) (numbered_statement body) (λ u v. While u v) n m k x.0 x.1 (of_while test body) px.0 px.1))
+
+pub for_numbered : (first : Stmt) (test : Expr) (last body : Stmt) (n m k j i : ℕ) (f : Made Stmt) (t : Made Expr) (l b : Made Stmt) (result : Made StmtForm)
+    → IfOk f (λ x. numbered_statement first n ≡ (x, m)) → IfOk t (λ x. numbered_expression test m ≡ (x, k)) → IfOk l (λ x. numbered_statement last k ≡ (x, j)) → IfOk b (λ x. numbered_statement body j ≡ (x, i)) → result ≡ for_of f t l b
+    → IfOk result (λ x. numbered_statement_form (For first test last body) n ≡ (x, i))
+for_numbered first test last body n m k j i f t l b result p q r s h =
+    let F : Stmt → Type 0 = λ x. numbered_statement first n ≡ (x, m) in
+    let T : Expr → Type 0 = λ x. numbered_expression test m ≡ (x, k) in
+    let L : Stmt → Type 0 = λ x. numbered_statement last k ≡ (x, j) in
+    let B : Stmt → Type 0 = λ x. numbered_statement body j ≡ (x, i) in
+    let W : StmtForm → Type 0 = λ x. numbered_statement_form (For first test last body) n ≡ (x, i) in
+    subst (λ (o : Made StmtForm). IfOk o W) (sym h)
+    (with_kept (λ (x : (Stmt × Expr) × (Stmt × Stmt)). (F x.0.0 × T x.0.1) × (L x.1.0 × B x.1.1)) W (both (both f t) (both l b)) (λ x. Ok (For x.0.0 x.0.1 x.1.0 x.1.1))
+    (both_kept (λ (x : Stmt × Expr). F x.0 × T x.1) (λ (x : Stmt × Stmt). L x.0 × B x.1) (both f t) (both l b) (both_kept F T f t p q) (both_kept L B l b r s)) (λ x px.
+    four_parts (numbered_statement_form (For first test last body)) (numbered_statement first) (numbered_expression test) (numbered_statement last) (numbered_statement body) (λ u v w z. For u v w z) n m k j i x.0.0 x.0.1 x.1.0 x.1.1 (of_for first test last body) px.0.0 px.0.1 px.1.0 px.1.1))
+
+pub statement_numbered : (s : Stmt) (n next m : ℕ) (id : Made ℕ) (form : Made StmtForm) (result : Made Stmt)
+    → IfOk id (λ x. x ≡ n) → OnOk id (next ≡ n + 1) → IfOk form (λ x. numbered_statement_form s.form next ≡ (x, m)) → result ≡ statement_of id s.token form
+    → IfOk result (λ x. numbered_statement s n ≡ (x, m))
+statement_numbered s n next m (Err e) form result p q r h = subst (λ (o : Made Stmt). IfOk o (λ x. numbered_statement s n ≡ (x, m))) (sym h) tt
+statement_numbered s n next m (Ok id) (Err e) result p q r h = subst (λ (o : Made Stmt). IfOk o (λ x. numbered_statement s n ≡ (x, m))) (sym h) tt
+statement_numbered s n next m (Ok id) (Ok form) result p q r h =
+    subst (λ (o : Made Stmt). IfOk o (λ x. numbered_statement s n ≡ (x, m))) (sym h) (a_statement s n id next m form p q r)

@@ -4,9 +4,9 @@
 #![tactic(auto)]
 
 mod numbering;
+mod parts;
 
 pub use numbering::number;
-
 use px_lex::Token;
 use sqlite_items::{Boxed, Items};
 

@@ -2,7 +2,8 @@
 ghost use Rattle.std.specs.Prelude.{◌≡◌, ◌+◌, IfOk, OnOk, map, reverse, option_map};
 ghost use Rattle.px_tree.specs.Numbering.{numbered_expression, numbered_expression_form, numbered_statement, numbered_statement_form, number_if, number_returned, in_order, numbered_member, numbered_class, numbered_classes};
 
-use crate::{Class, Expr, ExprForm, Member, Method, Stmt, StmtForm};
+use crate::parts::{for_of, if_of, statement_of, while_of};
+use crate::{Class, Expr, ExprForm, Member, Method, Name, Sign, Stmt, StmtForm, TypeName};
 use sqlite_items::{Boxed, Items};
 use std::alloc::{AllocError, Global};
 
@@ -149,6 +150,49 @@ impl Numbers {
         }
     }
 
+    fn local(&mut self, ty: TypeName, name: Name, value: Expr) -> Result<StmtForm, AllocError>
+        ensures { IfOk result (λ x. numbered_statement_form (StmtForm.Local ty name value) self.old.next ≡ (x, self.new.next)) }
+    {
+        let value = self.expression(value)?;
+        Ok(StmtForm::Local { ty, name, value })
+    }
+
+    fn assign(&mut self, place: Expr, value: Expr) -> Result<StmtForm, AllocError>
+        ensures { IfOk result (λ x. numbered_statement_form (StmtForm.Assign place value) self.old.next ≡ (x, self.new.next)) }
+    {
+        let place = self.expression(place)?;
+        let value = self.expression(value)?;
+        Ok(StmtForm::Assign { place, value })
+    }
+
+    fn compound(&mut self, name: Name, sign: Sign, value: Expr) -> Result<StmtForm, AllocError>
+        ensures { IfOk result (λ x. numbered_statement_form (StmtForm.Compound name sign value) self.old.next ≡ (x, self.new.next)) }
+    {
+        let value = self.expression(value)?;
+        Ok(StmtForm::Compound { name, sign, value })
+    }
+
+    fn call(&mut self, call: Expr) -> Result<StmtForm, AllocError>
+        ensures { IfOk result (λ x. numbered_statement_form (StmtForm.Call call) self.old.next ≡ (x, self.new.next)) }
+    {
+        let call = self.expression(call)?;
+        Ok(StmtForm::Call(call))
+    }
+
+    fn return_of(&mut self, value: Option<Expr>) -> Result<StmtForm, AllocError>
+        ensures { IfOk result (λ x. numbered_statement_form (StmtForm.Return value) self.old.next ≡ (x, self.new.next)) }
+    {
+        let value = self.returned(value)?;
+        Ok(StmtForm::Return(value))
+    }
+
+    fn print(&mut self, value: Expr) -> Result<StmtForm, AllocError>
+        ensures { IfOk result (λ x. numbered_statement_form (StmtForm.Print value) self.old.next ≡ (x, self.new.next)) }
+    {
+        let value = self.expression(value)?;
+        Ok(StmtForm::Print(value))
+    }
+
     #[cycle(statement)]
     fn boxed_statement(&mut self, s: Boxed<Stmt>) -> Result<Boxed<Stmt>, AllocError>
         ensures { IfOk result (λ x. numbered_statement s self.old.next ≡ (x, self.new.next)) }
@@ -191,10 +235,10 @@ impl Numbers {
     ) -> Result<StmtForm, AllocError>
         ensures { IfOk result (λ x. numbered_statement_form (StmtForm.If test yes no) self.old.next ≡ (x, self.new.next)) }
     {
-        let test = self.expression(test)?;
-        let yes = self.boxed_statement(yes)?;
-        let no = self.else_part(no)?;
-        Ok(StmtForm::If { test, yes, no })
+        let test = self.expression(test);
+        let yes = self.boxed_statement(yes);
+        let no = self.else_part(no);
+        if_of(test, yes, no)
     }
 
     #[cycle(statement)]
@@ -207,16 +251,28 @@ impl Numbers {
     ) -> Result<StmtForm, AllocError>
         ensures { IfOk result (λ x. numbered_statement_form (StmtForm.For first test last body) self.old.next ≡ (x, self.new.next)) }
     {
-        let first = self.boxed_statement(first)?;
-        let test = self.expression(test)?;
-        let last = self.boxed_statement(last)?;
-        let body = self.boxed_statement(body)?;
-        Ok(StmtForm::For {
-            first,
-            test,
-            last,
-            body,
-        })
+        let first = self.boxed_statement(first);
+        let test = self.expression(test);
+        let last = self.boxed_statement(last);
+        let body = self.boxed_statement(body);
+        for_of(first, test, last, body)
+    }
+
+    #[cycle(statement)]
+    fn while_loop(&mut self, test: Expr, body: Boxed<Stmt>) -> Result<StmtForm, AllocError>
+        ensures { IfOk result (λ x. numbered_statement_form (StmtForm.While test body) self.old.next ≡ (x, self.new.next)) }
+    {
+        let test = self.expression(test);
+        let body = self.boxed_statement(body);
+        while_of(test, body)
+    }
+
+    #[cycle(statement)]
+    fn block(&mut self, items: Items<Stmt>) -> Result<StmtForm, AllocError>
+        ensures { IfOk result (λ x. numbered_statement_form (StmtForm.Block items) self.old.next ≡ (x, self.new.next)) }
+    {
+        let items = self.items(items)?;
+        Ok(StmtForm::Block(items))
     }
 
     #[cycle(statement)]
@@ -224,50 +280,24 @@ impl Numbers {
         ensures { IfOk result (λ x. numbered_statement_form form self.old.next ≡ (x, self.new.next)) }
     {
         match form {
-            StmtForm::Block(items) => {
-                let items = self.items(items)?;
-                Ok(StmtForm::Block(items))
-            }
+            StmtForm::Block(items) => self.block(items),
             StmtForm::Empty => Ok(StmtForm::Empty),
-            StmtForm::Local { ty, name, value } => {
-                let value = self.expression(value)?;
-                Ok(StmtForm::Local { ty, name, value })
-            }
-            StmtForm::Assign { place, value } => {
-                let place = self.expression(place)?;
-                let value = self.expression(value)?;
-                Ok(StmtForm::Assign { place, value })
-            }
-            StmtForm::Compound { name, sign, value } => {
-                let value = self.expression(value)?;
-                Ok(StmtForm::Compound { name, sign, value })
-            }
+            StmtForm::Local { ty, name, value } => self.local(ty, name, value),
+            StmtForm::Assign { place, value } => self.assign(place, value),
+            StmtForm::Compound { name, sign, value } => self.compound(name, sign, value),
             StmtForm::Up(name) => Ok(StmtForm::Up(name)),
             StmtForm::Down(name) => Ok(StmtForm::Down(name)),
-            StmtForm::Call(call) => {
-                let call = self.expression(call)?;
-                Ok(StmtForm::Call(call))
-            }
+            StmtForm::Call(call) => self.call(call),
             StmtForm::If { test, yes, no } => self.conditional(test, yes, no),
-            StmtForm::While { test, body } => {
-                let test = self.expression(test)?;
-                let body = self.boxed_statement(body)?;
-                Ok(StmtForm::While { test, body })
-            }
+            StmtForm::While { test, body } => self.while_loop(test, body),
             StmtForm::For {
                 first,
                 test,
                 last,
                 body,
             } => self.for_loop(first, test, last, body),
-            StmtForm::Return(value) => {
-                let value = self.returned(value)?;
-                Ok(StmtForm::Return(value))
-            }
-            StmtForm::Print(value) => {
-                let value = self.expression(value)?;
-                Ok(StmtForm::Print(value))
-            }
+            StmtForm::Return(value) => self.return_of(value),
+            StmtForm::Print(value) => self.print(value),
         }
     }
 
@@ -276,9 +306,9 @@ impl Numbers {
         ensures { IfOk result (λ x. numbered_statement s self.old.next ≡ (x, self.new.next)) }
     {
         let Stmt { id: _, token, form } = s;
-        let id = self.fresh()?;
-        let form = self.statement_form(form)?;
-        Ok(Stmt { id, token, form })
+        let id = self.fresh();
+        let form = self.statement_form(form);
+        statement_of(id, token, form)
     }
 
     fn member(&mut self, member: Member) -> Result<Member, AllocError>

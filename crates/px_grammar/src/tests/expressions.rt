@@ -4,8 +4,8 @@ ghost use Rattle.std.specs.Prelude.{◌<◌, ◌^◌, length};
 use crate::error::ReadError;
 use crate::source::Source;
 use crate::tokens::Tokens;
-use px_tree::{Expr, ExprForm, Sign, Stmt, StmtForm};
 use crate::word::lexemes;
+use px_tree::{Expr, ExprForm, Sign, Stmt, StmtForm};
 use sqlite_items::Boxed;
 use std::alloc::Global;
 

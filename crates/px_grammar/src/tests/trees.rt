@@ -1,6 +1,6 @@
 //! What hangs on what, and the numbers of nodes.
-use px_tree::{ExprForm, Member, StmtForm};
 use crate::{ParseError, parse};
+use px_tree::{ExprForm, Member, StmtForm};
 
 #[test]
 fn an_else_belongs_to_the_near_if(rt: HostRuntime) -> Result<(), ParseError> {

@@ -22,6 +22,12 @@ decreases-conditional l = 5 * (statement_size l.yes + size_if (option_map statem
 abbrev pub decreases-for_loop : goal.decreases-for_loop
 decreases-for_loop l = 5 * (statement_size l.first + statement_size l.last + statement_size l.body) + 3
 
+abbrev pub decreases-block : goal.decreases-block
+decreases-block l = 5 * total (map statement_size l.items) + 2
+
+abbrev pub decreases-while_loop : goal.decreases-while_loop
+decreases-while_loop l = 5 * statement_size l.body + 3
+
 abbrev pub decreases-statement_form : goal.decreases-statement_form
 decreases-statement_form l = 5 * statement_size_of_form l.form + 4
 
