@@ -101,7 +101,8 @@ fn program_of(
     requires lexemes { lexemes.now ≡ lexemes_of bytes.now (tokens_of bytes.now) }
     ensures { IfOk result (λ p. IsProgram bytes.now p) }
 {
-    let Declared { tables, classes } = declared(alloc, bytes, lexemes)?;
+    let declared = declared(alloc, bytes, lexemes)?;
+    let Declared { tables, classes } = declared;
     let classes = number(alloc, classes)?;
     Ok(Program {
         tables,
