@@ -25,7 +25,7 @@ mod word;
 
 pub use error::{ParseError, ReadError};
 pub use lexeme::{Lexeme, Word};
-pub use program::{line_at, parse, refused_line};
+pub use program::{line_at, refused_line};
 pub use unbuilt::first_unbuilt;
 pub use whole::Declared;
 pub use word::lexemes;

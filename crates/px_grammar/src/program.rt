@@ -11,7 +11,6 @@ use crate::error::{ParseError, ReadError};
 use crate::lexeme::Lexeme;
 use crate::roles::roles;
 use crate::source::Source;
-use px_tree::{Program, number};
 use crate::whole::Declared;
 use crate::word::lexemes;
 use px_accept::first_refused;
@@ -86,31 +85,5 @@ fn declared(alloc: Global, bytes: &[u8], lexemes: &[Lexeme]) -> Result<Declared,
         Err(ReadError::NoMemory) => Err(AllocError),
         // What is a program is read.
         Err(ReadError::Unreadable) => unreachable!(),
-    }
-}
-
-/// The program of a text. A refusal tells the line of the first token up to which no program begins so, or at which it would nest too deep;
-/// the end of the text is a token too.
-pub fn parse(alloc: Global, bytes: &[u8]) -> Result<Program, ParseError>
-    requires { length bytes.now < 2 ^ 31 }
-    ensures found { IfOk result (λ p. IsProgram bytes.now p) }
-    ensures refused { (line : ℕ) → result ≡ Err (ParseError.Syntax line) → IsRefusedAt bytes.now line }
-{
-    let Judged {
-        tokens,
-        lexemes,
-        refused,
-    } = judge(alloc, bytes)?;
-    match refused {
-        Some(line) => Err(ParseError::Syntax { line }),
-        None => {
-            let Declared { tables, classes } = declared(alloc, bytes, &lexemes)?;
-            let classes = number(alloc, classes)?;
-            Ok(Program {
-                tables,
-                classes,
-                tokens: Items::from_vec(tokens),
-            })
-        }
     }
 }

@@ -3,10 +3,6 @@
 //! before an inner one.
 #![tactic(auto)]
 
-mod numbering;
-
-pub use numbering::number;
-
 use px_lex::Token;
 use sqlite_items::{Boxed, Items};
 
