@@ -124,15 +124,15 @@ field_read source access ty name semicolon ms ts rest h i a t =
 method_read : (source : List ℕ) (access : Access) (gives : Option TypeName) (ps : List Param) (items : List Stmt) (ms rs xs ts ys : List Lexeme) (name opening closing begin finish : Lexeme) (rest : List Lexeme) → is_name name.word ≡ true → opening.word ≡ w.Open → closing.word ≡ w.Close → begin.word ≡ w.OpenBrace → finish.word ≡ w.CloseBrace
     → SpellsAccess access ms → SpellsResult source gives rs → SpellsParams source ps xs → SpellsThrows ts → SpellsItems source items ys
     → a_member source ((ms ++ (rs ++ name ∷ opening ∷ xs ++ (closing ∷ ts ++ (begin ∷ ys ++ finish ∷ [])))) ++ rest) ≡ Some (method_with source (first_token (ms ++ rs)) access gives name ps (block_of begin items) finish.token, rest)
-unfolding method
+unfolding method r.signature
 method_read source access gives ps items ms rs xs ts ys name opening closing begin finish rest h i j k l a t p u s =
     let block : List Lexeme = begin ∷ (ys ++ finish ∷ rest) in
     let behind : List Lexeme = closing ∷ (ts ++ block) in
     let list : (ms ++ (rs ++ name ∷ opening ∷ xs ++ (closing ∷ ts ++ (begin ∷ ys ++ finish ∷ [])))) ++ rest ≡ ms ++ (rs ++ name ∷ (opening ∷ (xs ++ behind))) = simp append_assoc in
     ap (a_member source) list ∙ named source access gives ms rs name (opening ∷ (xs ++ behind)) a t h
     ∙ is_method source (first_token (ms ++ rs)) access gives name (opening ∷ (xs ++ behind)) i
-    ∙ step _ (expects w.Open opening (xs ++ behind) i) (step _ (params_read source ps xs behind p j) (step _ (expects w.Close closing (ts ++ block) j) (step _ (throws_read ts block u k)
-    (step _ (block_read source begin finish items ys k l (items_read source items ys s) (suc (length block)) rest (omega arith)) refl))))
+    ∙ step _ (step _ (expects w.Open opening (xs ++ behind) i) (step _ (params_read source ps xs behind p j) (step _ (expects w.Close closing (ts ++ block) j) (step _ (throws_read ts block u k) refl))))
+    (step _ (block_read source begin finish items ys k l (items_read source items ys s) (suc (length block)) rest (omega arith)) refl)
 
 member_read : (source : List ℕ) (m : Member) (xs rest : List Lexeme) → SpellsMember source m xs → a_member source (xs ++ rest) ≡ Some (m, rest)
 member_read source _ _ rest (g.SpellsMember.field access ty name semicolon ms ts h i a t) = field_read source access ty name semicolon ms ts rest h i a t

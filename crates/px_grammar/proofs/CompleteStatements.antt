@@ -136,6 +136,18 @@ while_loop source ends_open x opening closing k test body ts bs h i j t body_rea
     ∙ step _ (takes x behind) (step _ (condition_read source opening closing k test ts (bs ++ rest) i j t)
     (step _ (body_read bound rest (shorter x opening closing ts bs rest bound d) e) refl))
 
+for_parts_read : (source : List ℕ) (opening semicolon again closing : Lexeme) (k : ℕ) (begin : Stmt) (test : Expr) (last : Stmt) (fs ts ls rest : List Lexeme) → opening.word ≡ w.Open → semicolon.word ≡ w.Semicolon → again.word ≡ w.Semicolon → closing.word ≡ w.Close
+    → SpellsFirst source begin fs → SpellsExpression source k test ts → SpellsSimple source last ls
+    → r.for_parts source (opening ∷ (fs ++ semicolon ∷ (ts ++ again ∷ (ls ++ closing ∷ rest)))) ≡ Some (record { first = begin; test = test; last = last }, rest)
+unfolding r.for_parts r.first_part r.test_part r.last_part
+for_parts_read source opening semicolon again closing k begin test last fs ts ls rest i j l m f t u =
+    let closed : List Lexeme = closing ∷ rest in
+    let third : List Lexeme = again ∷ (ls ++ closed) in
+    let second : List Lexeme = semicolon ∷ (ts ++ third) in
+    step _ (step _ (expects w.Open opening (fs ++ second) i) (step _ (first_read source begin fs semicolon (ts ++ third) f j) (step _ (expects w.Semicolon semicolon (ts ++ third) j) refl)))
+    (step _ (step _ (value_read source k test ts third t (ends_stop third (ap ends l))) (step _ (expects w.Semicolon again (ls ++ closed) l) refl))
+    (step _ (step _ (simple_read source last ls closed u (ap ends m)) (step _ (expects w.Close closing rest m) refl)) refl))
+
 for_loop : (source : List ℕ) (ends_open : Bool) (x opening semicolon again closing : Lexeme) (k : ℕ) (begin : Stmt) (test : Expr) (last body : Stmt) (fs ts ls bs : List Lexeme) → x.word ≡ w.For → opening.word ≡ w.Open → semicolon.word ≡ w.Semicolon → again.word ≡ w.Semicolon → closing.word ≡ w.Close
     → SpellsFirst source begin fs → SpellsExpression source k test ts → SpellsSimple source last ls → IsRead source ends_open body bs
     → IsRead source ends_open (for_of x begin test last body) (x ∷ opening ∷ fs ++ semicolon ∷ ts ++ again ∷ ls ++ closing ∷ bs)
@@ -153,14 +165,12 @@ for_loop source ends_open x opening semicolon again closing k begin test last bo
     let c = length-append ls closed in
     ap (statement source (suc bound)) list
     ∙ ap (λ v. statement_on source (statement source bound) v (x ∷ behind)) h
-    ∙ step _ (takes x behind) (step _ (expects w.Open opening (fs ++ second) i) (step _ (first_read source begin fs semicolon (ts ++ third) f j) (step _ (expects w.Semicolon semicolon (ts ++ third) j)
-    (step _ (value_read source k test ts third t (ends_stop third (ap ends l))) (step _ (expects w.Semicolon again (ls ++ closed) l)
-    (step _ (simple_read source last ls closed u (ap ends m)) (step _ (expects w.Close closing (bs ++ rest) m)
-    (step _ (body_read bound rest (omega (arith, d, whole, a, b, c)) e) refl))))))))
+    ∙ step _ (takes x behind) (step _ (for_parts_read source opening semicolon again closing k begin test last fs ts ls (bs ++ rest) i j l m f t u)
+    (step _ (body_read bound rest (omega (arith, d, whole, a, b, c)) e) refl))
 
 -- ---- blocks
 
-pub block_read : (source : List ℕ) (opening closing : Lexeme) (items : List Stmt) (xs : List Lexeme) → opening.word ≡ w.OpenBrace → closing.word ≡ w.CloseBrace → IsReadItems source items xs → (bound : ℕ) (rest : List Lexeme) → length (xs ++ closing ∷ rest) < bound → block source (statement source bound) (opening ∷ (xs ++ closing ∷ rest)) ≡ Some ((block_of opening items, closing.token), rest)
+pub block_read : (source : List ℕ) (opening closing : Lexeme) (items : List Stmt) (xs : List Lexeme) → opening.word ≡ w.OpenBrace → closing.word ≡ w.CloseBrace → IsReadItems source items xs → (bound : ℕ) (rest : List Lexeme) → length (xs ++ closing ∷ rest) < bound → block source (statement source bound) (opening ∷ (xs ++ closing ∷ rest)) ≡ Some (record { opening = opening; items = items; to = closing.token }, rest)
 unfolding block
 block_read source opening closing items xs h i read bound rest d =
     let behind : List Lexeme = closing ∷ rest in

@@ -1,4 +1,4 @@
--- The turns of a loop that reads one after the other, the exit of a `?`, and a statement with turns enough.
+-- The turns of a loop that reads one after the other, and a statement with turns enough.
 use Rattle.std.proofs.Common.{◌≡◌, ℕ, zero, suc, ◌<◌, ◌≤◌, Bool, true, false, if◌then◌else◌, List, [], ◌∷◌, ◌++◌, length, Option, Some, None, Result, Ok, Err, refl, sym, ap, ◌∙◌, subst, arith}
 use Rattle.std.specs.Result.{IsErrAnd}
 use Rattle.px_grammar.specs.declared.lexeme.Word.{Word}
@@ -6,12 +6,8 @@ use Rattle.px_grammar.specs.declared.lexeme.Word.TheVariants as w
 use Rattle.px_tree.specs.declared.Stmt.{Stmt}
 use Rattle.px_grammar.specs.declared.error.ReadError.{ReadError}
 use Rattle.px_grammar.specs.declared.error.ReadError.TheVariants.{Unreadable, NoMemory}
+use Rattle.px_grammar.proofs.Leading.{gives_as}
 use Rattle.px_grammar.specs.Reading.{State, Read, Reads, and_then, ◌>>=◌, by_test, next_word, Gives, Fails, repeated, statement, statement_on, braced, empty, conditional, while_loop, for_loop, returned, is_print, print, ended_by_semicolon, simple}
-
-pub repeated_ends : {A : Type 0} (goes_on : State → Bool) (one : Reads A) (m : ℕ) (found : List A) (s : State) → goes_on s ≡ false → repeated goes_on one m found s ≡ Some (found, s)
-unfolding repeated
-repeated_ends goes_on one zero found s h = refl
-repeated_ends goes_on one (suc m) found s h = ap (λ b. if b then (one >>= (λ x. repeated goes_on one m (found ++ x ∷ []))) s else Some (found, s)) h
 
 pub repeated_done : {A : Type 0} (goes_on : State → Bool) (one : Reads A) (m : ℕ) (found : List A) (s : State) → m ≡ 0 → repeated goes_on one m found s ≡ Some (found, s)
 unfolding repeated
@@ -26,19 +22,6 @@ repeated_step goes_on one m k found s h e =
 pub repeated_turn : {A : Type 0} (goes_on : State → Bool) (one : Reads A) (m k : ℕ) (found more : List A) (x : A) (s s' : State) → goes_on s ≡ true → m ≡ suc k → one s ≡ Some (x, s') → more ≡ found ++ x ∷ [] → repeated goes_on one m found s ≡ repeated goes_on one k more s'
 repeated_turn goes_on one m k found more x s s' h e o p =
     repeated_step goes_on one m k found s h e ∙ ap (λ (r : Read _). and_then r (λ x. repeated goes_on one k (found ++ x ∷ []))) o ∙ ap (λ (xs : List _). repeated goes_on one k xs s') (sym p)
-
-fails_then : {A B : Type 0} (e : ReadError) (read : Read A) (f : A → Reads B) → Fails e read → Fails e (and_then read f)
-fails_then NoMemory read f h = tt
-fails_then Unreadable read f h = ap (λ (r : Read _). and_then r f) h
-
--- the exit of a `?`
-pub exits : {A B : Type 0} (e : ReadError) (read : Read A) (f : A → Reads B) (whole : Read B) (result : Result B ReadError) (now : State) → IsErrAnd result (λ y. y ≡ e) → Fails e read → whole ≡ and_then read f → Gives whole result now
-exits e read f whole (Ok x) now i h k = absurd i
-exits e read f whole (Err y) now i h k = subst (λ (z : ReadError). Fails z whole) (sym i) (subst (λ (r : Option (_ × State)). Fails e r) (sym k) (fails_then e read f h))
-
--- the same read, in other words
-pub gives_as : {A : Type 0} (read same : Read A) (result : Result A ReadError) (now : State) → read ≡ same → Gives same result now → Gives read result now
-gives_as read same result now e h = subst (λ (r : Read _). Gives r result now) (sym e) h
 
 -- a statement that begins with a word, with more turns than lexemes
 pub statement_turn : (source : List ℕ) (one : Reads Stmt → Reads Stmt) (n : ℕ) (s : State) (result : Result Stmt ReadError) (now : State) (x : Word) → length s < n → next_word s ≡ x → ((inner : Reads Stmt) → statement_on source inner x ≡ one inner) → ((k : ℕ) → length s ≤ k → Gives (one (statement source k) s) result now) → Gives (statement source n s) result now

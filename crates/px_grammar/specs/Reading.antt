@@ -24,6 +24,8 @@ use Rattle.px_tree.specs.declared.Column.{Column}
 use Rattle.px_tree.specs.declared.TableDecl.{TableDecl}
 use Rattle.px_grammar.specs.declared.error.ReadError.{ReadError}
 use Rattle.px_grammar.specs.declared.error.ReadError.TheVariants.{Unreadable, NoMemory}
+use Rattle.px_grammar.specs.declared.parts.Turns.{Turns}
+use Rattle.px_grammar.specs.declared.parts.Braces.{Braces}
 use Rattle.px_grammar.specs.declared.whole.Declared.{Declared}
 use Rattle.px_grammar.specs.Lexemes.{is_name}
 use Rattle.px_grammar.specs.Words.{binary_sign, level, prefix_sign, compound_sign, is_primitive}
@@ -91,6 +93,12 @@ sees word = λ xs. same_word (next_word xs) word
 
 abbrev pub sees_no : Word → State → Bool
 sees_no word = λ xs. not (sees word xs)
+
+-- a word behind a value
+abbrev pub ended : {A : Type 0} → Word → A → Reads A
+ended word x = do
+  expect word
+  pure x
 
 -- ---- lists
 
@@ -355,16 +363,12 @@ ended_by_semicolon one = do
 unfoldable pub item : List ℕ → Reads Stmt → Reads Stmt
 item source inner = by_test is_local (ended_by_semicolon (local source)) inner
 
--- a block, with the number of its last token
-abbrev pub Blocks : Type 0
-Blocks = Reads (Stmt × ℕ)
-
-unfoldable pub block : List ℕ → Reads Stmt → Blocks
+unfoldable pub block : List ℕ → Reads Stmt → Reads Braces
 block source inner = do
   opening ← expect w.OpenBrace
   items ← all_while (sees_no w.CloseBrace) (item source inner) []
   closing ← expect w.CloseBrace
-  pure (block_of opening items, closing.token)
+  pure (record { opening = opening; items = items; to = closing.token })
 
 -- an expression in parentheses, behind a keyword
 unfoldable pub condition : List ℕ → Reads Expr
@@ -394,18 +398,39 @@ while_loop source inner = do
   body ← inner
   pure (while_of x test body)
 
-unfoldable pub for_loop : List ℕ → Reads Stmt → Reads Stmt
-for_loop source inner = do
-  x ← take
+-- the three parts of a `for`, each with the sign behind it
+unfoldable pub first_part : List ℕ → Reads Stmt
+first_part source = do
   expect w.Open
   begin ← first source
   expect w.Semicolon
+  pure begin
+
+unfoldable pub test_part : List ℕ → Reads Expr
+test_part source = do
   test ← value source
   expect w.Semicolon
+  pure test
+
+unfoldable pub last_part : List ℕ → Reads Stmt
+last_part source = do
   last ← simple source
   expect w.Close
+  pure last
+
+unfoldable pub for_parts : List ℕ → Reads Turns
+for_parts source = do
+  begin ← first_part source
+  test ← test_part source
+  last ← last_part source
+  pure (record { first = begin; test = test; last = last })
+
+unfoldable pub for_loop : List ℕ → Reads Stmt → Reads Stmt
+for_loop source inner = do
+  x ← take
+  parts ← for_parts source
   body ← inner
-  pure (for_of x begin test last body)
+  pure (for_of x parts.first parts.test parts.last body)
 
 unfoldable pub return_value : List ℕ → Lexeme → Reads Stmt
 return_value source x = do
@@ -448,7 +473,7 @@ empty = do
 unfoldable pub braced : List ℕ → Reads Stmt → Reads Stmt
 braced source inner = do
   b ← block source inner
-  pure b.0
+  pure (block_of b.opening b.items)
 
 unfoldable pub statement_on : List ℕ → Reads Stmt → Word → Reads Stmt
 statement_on source inner w.OpenBrace = braced source inner
@@ -464,7 +489,7 @@ statement source zero = refuse
 statement source (suc n) = by_word (statement_on source (statement source n))
 
 -- with turns enough
-abbrev pub body : List ℕ → Blocks
+abbrev pub body : List ℕ → Reads Braces
 body source = λ s. block source (statement source (suc (length s))) s
 
 -- ---- members
@@ -520,14 +545,20 @@ skip_two = do
 unfoldable pub throws : Reads (Unit {0})
 throws = by_test (sees w.Throws) skip_two (pure tt)
 
-unfoldable pub method : List ℕ → ℕ → Access → Option TypeName → Lexeme → Reads Member
-method source from access gives name = do
+-- the parameters, with what stands round them
+unfoldable pub signature : List ℕ → Reads (List Param)
+signature source = do
   expect w.Open
   ps ← params source
   expect w.Close
   throws
+  pure ps
+
+unfoldable pub method : List ℕ → ℕ → Access → Option TypeName → Lexeme → Reads Member
+method source from access gives name = do
+  ps ← signature source
   b ← body source
-  pure (method_with source from access gives name ps b.0 b.1)
+  pure (method_with source from access gives name ps (block_of b.opening b.items) b.to)
 
 unfoldable pub field : List ℕ → Access → TypeName → Lexeme → Reads Member
 field source access ty name = do

@@ -6,13 +6,11 @@ ghost use Rattle.px_grammar.specs.Reading.{Gives};
 use crate::error::ReadError;
 use crate::lexeme::{Lexeme, Word};
 use crate::nodes::{block_of, for_of, if_of, while_of};
+use crate::parts::Braces;
 use crate::source::Source;
 use crate::tokens::Tokens;
 use px_tree::{Expr, Stmt};
 use sqlite_items::{Boxed, Items};
-
-/// A block, and the number of its last token.
-pub type Block = (Stmt, u32);
 
 impl Source<'_> {
     #[cycle(block)]
@@ -77,15 +75,9 @@ impl Source<'_> {
         ensures fewer { OnOk result (length tokens.new.left.now < length tokens.old.left.now) }
     {
         let x = tokens.take()?;
-        tokens.expect(Word::Open)?;
-        let first = self.boxed_first(tokens)?;
-        tokens.expect(Word::Semicolon)?;
-        let test = self.expression(tokens)?;
-        tokens.expect(Word::Semicolon)?;
-        let last = self.boxed_simple(tokens)?;
-        tokens.expect(Word::Close)?;
+        let turns = self.for_parts(tokens)?;
         let body = self.boxed_statement(tokens)?;
-        Ok(for_of(x, first, test, last, body))
+        Ok(for_of(x, turns, body))
     }
 
     #[cycle(block)]
@@ -136,14 +128,18 @@ impl Source<'_> {
 
     #[cycle(block)]
     #[tactic(auto, unfolding(crate::specs::Reading::block))]
-    fn block(&self, tokens: &mut Tokens<'_>) -> Result<Block, ReadError>
+    fn block(&self, tokens: &mut Tokens<'_>) -> Result<Braces, ReadError>
         ensures gives { (n : ℕ) → length tokens.old.left.now ≤ n → Gives (spec.block self.now.bytes.now (spec.statement self.now.bytes.now n) tokens.old.left.now) result tokens.new.left.now }
         ensures fewer { OnOk result (length tokens.new.left.now < length tokens.old.left.now) }
     {
         let opening = tokens.expect(Word::OpenBrace)?;
         let items = self.items(tokens)?;
         let closing = tokens.expect(Word::CloseBrace)?;
-        Ok((block_of(opening, items), closing.token))
+        Ok(Braces {
+            opening,
+            items,
+            to: closing.token,
+        })
     }
 
     // A block that is a statement.
@@ -153,12 +149,12 @@ impl Source<'_> {
         ensures gives { (n : ℕ) → length tokens.old.left.now ≤ n → Gives (spec.braced self.now.bytes.now (spec.statement self.now.bytes.now n) tokens.old.left.now) result tokens.new.left.now }
         ensures fewer { OnOk result (length tokens.new.left.now < length tokens.old.left.now) }
     {
-        let (block, _) = self.block(tokens)?;
-        Ok(block)
+        let block = self.block(tokens)?;
+        Ok(block_of(block))
     }
 
     /// The body of a method.
-    pub fn body(&self, tokens: &mut Tokens<'_>) -> Result<Block, ReadError>
+    pub fn body(&self, tokens: &mut Tokens<'_>) -> Result<Braces, ReadError>
         ensures gives { Gives (spec.body self.now.bytes.now tokens.old.left.now) result tokens.new.left.now }
         ensures fewer { OnOk result (length tokens.new.left.now < length tokens.old.left.now) }
     {

@@ -11,6 +11,7 @@ mod lexeme;
 mod locals;
 mod members;
 mod nodes;
+mod parts;
 mod program;
 mod roles;
 mod signs;

@@ -4,9 +4,10 @@ ghost use Rattle.px_grammar.specs.Reading as spec;
 ghost use Rattle.px_grammar.specs.Reading.{Gives};
 ghost use Rattle.px_grammar.specs.Trees as tree;
 
-use crate::blocks::Block;
 use crate::error::ReadError;
 use crate::lexeme::{Lexeme, Word};
+use crate::nodes::block_of;
+use crate::parts::Braces;
 use crate::source::Source;
 use crate::tokens::Tokens;
 use px_tree::{Access, FieldDecl, Member, Method, Param, TypeName};
@@ -131,21 +132,34 @@ impl Source<'_> {
         gives: Option<TypeName>,
         name: Lexeme,
         params: Items<Param>,
-        body: Block,
+        body: Braces,
     ) -> Result<Member, AllocError>
-        ensures { IfOk result (λ m. m ≡ tree.method_with self.now.bytes.now from access gives name params body.0 body.1) }
+        ensures { IfOk result (λ m. m ≡ tree.method_with self.now.bytes.now from access gives name params (tree.block_of body.opening body.items) body.to) }
     {
         let name = self.name(name)?;
-        let (body, to) = body;
+        let to = body.to;
         Ok(Member::Method(Method {
             access,
             gives,
             name,
             params,
-            body,
+            body: block_of(body),
             from,
             to,
         }))
+    }
+
+    // The parameters, with what stands round them.
+    #[tactic(auto, unfolding(crate::specs::Reading::signature))]
+    fn signature(&self, tokens: &mut Tokens<'_>) -> Result<Items<Param>, ReadError>
+        ensures gives { Gives (spec.signature self.now.bytes.now tokens.old.left.now) result tokens.new.left.now }
+        ensures fewer { OnOk result (length tokens.new.left.now < length tokens.old.left.now) }
+    {
+        tokens.expect(Word::Open)?;
+        let params = self.params(tokens)?;
+        tokens.expect(Word::Close)?;
+        throws(tokens)?;
+        Ok(params)
     }
 
     // Behind the name of a method.
@@ -161,10 +175,7 @@ impl Source<'_> {
         ensures gives { Gives (spec.method self.now.bytes.now from access gives name tokens.old.left.now) result tokens.new.left.now }
         ensures fewer { OnOk result (length tokens.new.left.now < length tokens.old.left.now) }
     {
-        tokens.expect(Word::Open)?;
-        let params = self.params(tokens)?;
-        tokens.expect(Word::Close)?;
-        throws(tokens)?;
+        let params = self.signature(tokens)?;
         let body = self.body(tokens)?;
         Ok(self.method_of(from, access, gives, name, params, body)?)
     }

@@ -3,6 +3,7 @@ ghost use Rattle.std.specs.Prelude.{◌≡◌, IfOk, None, Some};
 ghost use Rattle.px_grammar.specs.Trees as tree;
 
 use crate::lexeme::{Lexeme, Word};
+use crate::parts::{Braces, Turns};
 use crate::source::Source;
 use px_tree::{Expr, ExprForm, Sign, Stmt, StmtForm};
 use sqlite_items::{Boxed, Items};
@@ -134,10 +135,10 @@ fn unnumbered(token: u32, form: StmtForm) -> Stmt
     Stmt { id: 0, token, form }
 }
 
-pub fn block_of(opening: Lexeme, items: Items<Stmt>) -> Stmt
-    ensures { result ≡ tree.block_of opening items }
+pub fn block_of(braces: Braces) -> Stmt
+    ensures { result ≡ tree.block_of braces.opening braces.items }
 {
-    unnumbered(opening.token, StmtForm::Block(items))
+    unnumbered(braces.opening.token, StmtForm::Block(braces.items))
 }
 
 pub fn empty_of(semicolon: Lexeme) -> Stmt
@@ -158,15 +159,10 @@ pub fn while_of(x: Lexeme, test: Expr, body: Boxed<Stmt>) -> Stmt
     unnumbered(x.token, StmtForm::While { test, body })
 }
 
-pub fn for_of(
-    x: Lexeme,
-    first: Boxed<Stmt>,
-    test: Expr,
-    last: Boxed<Stmt>,
-    body: Boxed<Stmt>,
-) -> Stmt
-    ensures { result ≡ tree.for_of x first test last body }
+pub fn for_of(x: Lexeme, turns: Turns, body: Boxed<Stmt>) -> Stmt
+    ensures { result ≡ tree.for_of x turns.first turns.test turns.last body }
 {
+    let Turns { first, test, last } = turns;
     unnumbered(
         x.token,
         StmtForm::For {

@@ -6,6 +6,7 @@ ghost use Rattle.px_grammar.specs.Reading.{Gives};
 use crate::error::ReadError;
 use crate::lexeme::Word;
 use crate::nodes::{empty_of, print_of, return_of};
+use crate::parts::Turns;
 use crate::source::Source;
 use crate::tokens::Tokens;
 use px_tree::{Expr, Stmt};
@@ -34,8 +35,7 @@ impl Source<'_> {
     {
         tokens.expect(Word::Open)?;
         let test = self.expression(tokens)?;
-        tokens.expect(Word::Close)?;
-        Ok(test)
+        tokens.ended(Word::Close, test)
     }
 
     #[tactic(auto, unfolding(crate::specs::Reading::empty))]
@@ -86,8 +86,7 @@ impl Source<'_> {
         ensures fewer { OnOk result (length tokens.new.left.now < length tokens.old.left.now) }
     {
         let local = self.local(tokens)?;
-        tokens.expect(Word::Semicolon)?;
-        Ok(local)
+        tokens.ended(Word::Semicolon, local)
     }
 
     #[tactic(auto, unfolding(crate::specs::Reading::ended_by_semicolon))]
@@ -96,8 +95,7 @@ impl Source<'_> {
         ensures fewer { OnOk result (length tokens.new.left.now < length tokens.old.left.now) }
     {
         let simple = self.simple(tokens)?;
-        tokens.expect(Word::Semicolon)?;
-        Ok(simple)
+        tokens.ended(Word::Semicolon, simple)
     }
 
     // The first part of a `for`.
@@ -124,7 +122,7 @@ impl Source<'_> {
         }
     }
 
-    pub fn boxed_first(&self, tokens: &mut Tokens<'_>) -> Result<Boxed<Stmt>, ReadError>
+    fn boxed_first(&self, tokens: &mut Tokens<'_>) -> Result<Boxed<Stmt>, ReadError>
         ensures gives { Gives (spec.first self.now.bytes.now tokens.old.left.now) result tokens.new.left.now }
         ensures fewer { OnOk result (length tokens.new.left.now < length tokens.old.left.now) }
     {
@@ -132,11 +130,50 @@ impl Source<'_> {
         Ok(Boxed::new(self.alloc, first)?)
     }
 
-    pub fn boxed_simple(&self, tokens: &mut Tokens<'_>) -> Result<Boxed<Stmt>, ReadError>
+    fn boxed_simple(&self, tokens: &mut Tokens<'_>) -> Result<Boxed<Stmt>, ReadError>
         ensures gives { Gives (spec.simple self.now.bytes.now tokens.old.left.now) result tokens.new.left.now }
         ensures fewer { OnOk result (length tokens.new.left.now < length tokens.old.left.now) }
     {
         let simple = self.simple(tokens)?;
         Ok(Boxed::new(self.alloc, simple)?)
+    }
+
+    #[tactic(auto, unfolding(crate::specs::Reading::first_part))]
+    fn first_part(&self, tokens: &mut Tokens<'_>) -> Result<Boxed<Stmt>, ReadError>
+        ensures gives { Gives (spec.first_part self.now.bytes.now tokens.old.left.now) result tokens.new.left.now }
+        ensures fewer { OnOk result (length tokens.new.left.now < length tokens.old.left.now) }
+    {
+        tokens.expect(Word::Open)?;
+        let first = self.boxed_first(tokens)?;
+        tokens.ended(Word::Semicolon, first)
+    }
+
+    #[tactic(auto, unfolding(crate::specs::Reading::test_part))]
+    fn test_part(&self, tokens: &mut Tokens<'_>) -> Result<Expr, ReadError>
+        ensures gives { Gives (spec.test_part self.now.bytes.now tokens.old.left.now) result tokens.new.left.now }
+        ensures fewer { OnOk result (length tokens.new.left.now < length tokens.old.left.now) }
+    {
+        let test = self.expression(tokens)?;
+        tokens.ended(Word::Semicolon, test)
+    }
+
+    #[tactic(auto, unfolding(crate::specs::Reading::last_part))]
+    fn last_part(&self, tokens: &mut Tokens<'_>) -> Result<Boxed<Stmt>, ReadError>
+        ensures gives { Gives (spec.last_part self.now.bytes.now tokens.old.left.now) result tokens.new.left.now }
+        ensures fewer { OnOk result (length tokens.new.left.now < length tokens.old.left.now) }
+    {
+        let last = self.boxed_simple(tokens)?;
+        tokens.ended(Word::Close, last)
+    }
+
+    #[tactic(auto, unfolding(crate::specs::Reading::for_parts))]
+    pub fn for_parts(&self, tokens: &mut Tokens<'_>) -> Result<Turns, ReadError>
+        ensures gives { Gives (spec.for_parts self.now.bytes.now tokens.old.left.now) result tokens.new.left.now }
+        ensures fewer { OnOk result (length tokens.new.left.now < length tokens.old.left.now) }
+    {
+        let first = self.first_part(tokens)?;
+        let test = self.test_part(tokens)?;
+        let last = self.last_part(tokens)?;
+        Ok(Turns { first, test, last })
     }
 }

@@ -85,4 +85,13 @@ impl Tokens<'_> {
             _ => Err(ReadError::Unreadable),
         }
     }
+
+    /// A value, where such a word stands next.
+    pub fn ended<T: Drop>(&mut self, word: Word, value: T) -> Result<T, ReadError>
+        ensures gives { Gives (spec.ended word value self.old.left.now) result self.new.left.now }
+        ensures fewer { OnOk result (length self.new.left.now + 1 ≡ length self.old.left.now) }
+    {
+        self.expect(word)?;
+        Ok(value)
+    }
 }

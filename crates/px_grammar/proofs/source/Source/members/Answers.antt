@@ -1,7 +1,8 @@
 use Rattle.std.proofs.Common.{◌+◌, ◌-◌, length, not, ap, sym, ◌∙◌, arith}
 use Rattle.px_grammar.specs.declared.lexeme.Word.TheVariants as w
 use Rattle.px_grammar.specs.Reading.{a_member, sees_no}
-use Rattle.px_grammar.proofs.Repeats.{repeated_ends, repeated_done, repeated_step, repeated_turn, exits}
+use Rattle.px_grammar.proofs.ReadTurns.{repeated_ends, exits}
+use Rattle.px_grammar.proofs.Repeats.{repeated_done, repeated_step, repeated_turn}
 use Rattle.px_grammar.proofs.source.Source.members.Goals as goal
 
 pub returns-then-sees-clause-gives : goal.returns-then-sees-clause-gives

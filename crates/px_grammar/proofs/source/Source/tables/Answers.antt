@@ -1,19 +1,26 @@
 use Rattle.std.proofs.Common.{◌+◌, ◌-◌, length, sym, ◌∙◌, arith}
 use Rattle.px_grammar.specs.declared.lexeme.Word.TheVariants as w
 use Rattle.px_grammar.specs.Reading.{table, sees}
-use Rattle.px_grammar.proofs.Repeats.{repeated_ends, repeated_done, repeated_step, repeated_turn, exits}
+use Rattle.px_grammar.proofs.ReadTurns.{repeated_ends, exits}
+use Rattle.px_grammar.proofs.Repeats.{repeated_done, repeated_step, repeated_turn}
 use Rattle.px_grammar.proofs.source.Source.tables.Goals as goal
 
 pub returns-then-not-sees : goal.returns-then-not-sees
 returns-then-not-sees c =
-    c.loop-turn.invariant
-    ∙ repeated_ends (sees w.Create) (table c.args.self.now.bytes.now) (length c.args.tokens.now.left.now - c.loop-turn._turn) c.loop-turn.tables c.loop-turn.tokens.left.now (sym c.sees.ensures ∙ c.if-not-sees.true)
+    record {
+      gives =
+          c.loop-turn.invariant
+          ∙ repeated_ends (sees w.Create) (table c.args.self.now.bytes.now) (length c.args.tokens.now.left.now - c.loop-turn._turn) c.loop-turn.tables c.loop-turn.tokens.left.now (sym c.sees.ensures ∙ c.if-not-sees.true);
+    }
 
 pub returns-in_err-table : goal.returns-in_err-table
 returns-in_err-table c =
-    exits c.in_err-table.field-0.0 (table c.args.self.now.bytes.now c.loop-turn.tokens.left.now) _ _ c.from_residual.result c.table.new.tokens.left.now c.from_residual.ensures.1 c.in_err-table.ensures.gives
-    (c.loop-turn.invariant
-    ∙ repeated_step (sees w.Create) (table c.args.self.now.bytes.now) (length c.args.tokens.now.left.now - c.loop-turn._turn) (length c.args.tokens.now.left.now - (c.loop-turn._turn + 1)) c.loop-turn.tables c.loop-turn.tokens.left.now (sym c.sees.ensures ∙ c.if-not-sees.false) (omega arith))
+    record {
+      gives =
+          exits c.in_err-table.field-0.0 (table c.args.self.now.bytes.now c.loop-turn.tokens.left.now) _ _ c.from_residual.result c.table.new.tokens.left.now c.from_residual.ensures.1 c.in_err-table.ensures.gives
+          (c.loop-turn.invariant
+          ∙ repeated_step (sees w.Create) (table c.args.self.now.bytes.now) (length c.args.tokens.now.left.now - c.loop-turn._turn) (length c.args.tokens.now.left.now - (c.loop-turn._turn + 1)) c.loop-turn.tables c.loop-turn.tokens.left.now (sym c.sees.ensures ∙ c.if-not-sees.false) (omega arith));
+    }
 
 pub loop-turn-preserved : goal.loop-turn-preserved
 loop-turn-preserved c =
@@ -22,5 +29,8 @@ loop-turn-preserved c =
 
 pub returns : goal.returns
 returns c =
-    c.loop-turn.invariant
-    ∙ repeated_done (sees w.Create) (table c.args.self.now.bytes.now) (length c.args.tokens.now.left.now - c.loop-turn._turn) c.loop-turn.tables c.loop-turn.tokens.left.now (omega arith)
+    record {
+      gives =
+          c.loop-turn.invariant
+          ∙ repeated_done (sees w.Create) (table c.args.self.now.bytes.now) (length c.args.tokens.now.left.now - c.loop-turn._turn) c.loop-turn.tables c.loop-turn.tokens.left.now (omega arith);
+    }

@@ -1,0 +1,21 @@
+//! Parts of statements that hold statements.
+use crate::lexeme::Lexeme;
+use px_tree::{Expr, Stmt};
+use sqlite_items::{Boxed, Items};
+
+/// The parentheses of a `for`.
+#[derive(Drop)]
+pub struct Turns {
+    pub first: Boxed<Stmt>,
+    pub test: Expr,
+    pub last: Boxed<Stmt>,
+}
+
+/// A block.
+#[derive(Drop)]
+pub struct Braces {
+    pub opening: Lexeme,
+    pub items: Items<Stmt>,
+    /// The number of its last token.
+    pub to: u32,
+}
