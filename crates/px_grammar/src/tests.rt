@@ -19,3 +19,11 @@ fn parse_line(alloc: Global, text: &[u8]) -> Result<Option<u32>, AllocError>
         Err(ParseError::NoMemory) => Err(AllocError),
     }
 }
+
+// The text between two others.
+fn within(alloc: Global, before: &[u8], text: &[u8], behind: &[u8]) -> Result<Vec<u8>, AllocError> {
+    let mut whole = Vec::from_slice(alloc, before)?;
+    whole.extend_from_slice(text)?;
+    whole.extend_from_slice(behind)?;
+    Ok(whole)
+}

@@ -1,15 +1,11 @@
 //! Expressions of each form, and simple statements.
 ghost use Rattle.std.specs.Prelude.{◌<◌, ◌^◌, length};
 
-use crate::error::ReadError;
-use crate::source::Source;
-use crate::tokens::Tokens;
-use crate::word::lexemes;
-use px_tree::{Expr, ExprForm, Sign, Stmt, StmtForm};
-use sqlite_items::Boxed;
-use std::alloc::Global;
+use super::within;
+use crate::{ParseError, parse};
+use px_tree::{Class, Expr, ExprForm, Member, Sign, Stmt, StmtForm};
 
-// A letter for the form of the top, and the token of its operator or how many arguments it has.
+// A letter for the form of the top, and how many tokens of the expression stand before its operator, or how many arguments it has.
 const EXPRESSIONS: [(&[u8], u8, usize); 36] = [
     (b"17", b'1', 0),
     (b"\"a\"", b's', 0),
@@ -66,7 +62,7 @@ fn top(form: &ExprForm) -> (u8, usize) {
         ExprForm::NewObject(_) => (b'o', 0),
         ExprForm::NewArray { .. } => (b'a', 0),
         ExprForm::Prefix { sign, .. } => (prefix_letter(*sign), 0),
-        ExprForm::Binary { sign_token, .. } => (b'2', *sign_token as usize),
+        ExprForm::Binary { sign_token, .. } => (b'2', (*sign_token as usize).wrapping_sub(BEFORE)),
     }
 }
 
@@ -81,42 +77,37 @@ fn prefix_letter(sign: Sign) -> u8 {
     }
 }
 
-// The expression, and how many lexemes are left behind it.
-fn read(alloc: Global, text: &[u8]) -> Result<(Boxed<Expr>, usize), ReadError>
-    requires { length text.now < 2 ^ 31 }
-{
-    let tokens = px_lex::lex(alloc, text)?;
-    let lexemes = lexemes(alloc, text, &tokens)?;
-    let source = Source { alloc, bytes: text };
-    let mut tokens = Tokens { left: &lexemes };
-    let read = Boxed::new(alloc, source.expression(&mut tokens)?)?;
-    Ok((read, tokens.left.len()))
-}
-
-#[test]
-fn expressions_are_read(rt: HostRuntime) -> Result<(), ReadError> {
-    for (text, letter, number) in EXPRESSIONS {
-        assert!(rt; text.len() < 100);
-        let (read, left) = read(rt.alloc(), text)?;
-        assert_eq!(rt; top(&read.get().form), (letter, number), "at {text:?}");
-        // The end of the text.
-        assert_eq!(rt; left, 1, "at {text:?}");
+// The only statement of the only method.
+fn statement(classes: &[Class]) -> Option<&Stmt> {
+    let class = classes.get(0)?;
+    match class.members.get(0)? {
+        Member::Method(method) => match &method.body.form {
+            StmtForm::Block(items) => items.get(0),
+            _ => None,
+        },
+        Member::Field(_) => None,
     }
-    Ok(())
 }
 
+fn returned(classes: &[Class]) -> Option<&Expr> {
+    match &statement(classes)?.form {
+        StmtForm::Return(Some(value)) => Some(value),
+        _ => None,
+    }
+}
+
+// How many tokens stand before the expression.
+const BEFORE: usize = 9;
+
 #[test]
-fn literals_are_read(rt: HostRuntime) -> Result<(), ReadError> {
-    let (text, _) = read(rt.alloc(), b"\"a\\n\\t\\\"\\\\n\"")?;
-    let ExprForm::Str(bytes) = &text.get().form else {
-        panic!(rt; "no text");
-    };
-    assert_eq!(rt; bytes.as_slice(), b"a\n\t\"\\n".as_slice());
-    let (number, _) = read(rt.alloc(), b"120l")?;
-    let ExprForm::Number { digits, long } = &number.get().form else {
-        panic!(rt; "no number");
-    };
-    assert_eq!(rt; (digits.as_slice(), *long), (b"120".as_slice(), true));
+fn expressions_are_read(rt: HostRuntime) -> Result<(), ParseError> {
+    for (text, letter, number) in EXPRESSIONS {
+        let whole = within(rt.alloc(), b"class C { int f() { return ", text, b"; } }")?;
+        assert!(rt; whole.len() < 2000);
+        let program = parse(rt.alloc(), &whole)?;
+        let value = returned(program.classes.as_slice()).expect(&rt, "a value");
+        assert_eq!(rt; top(&value.form), (letter, number), "at {text:?}");
+    }
     Ok(())
 }
 
@@ -142,23 +133,28 @@ fn letter(form: &StmtForm) -> u8 {
     }
 }
 
-fn read_simple(alloc: Global, text: &[u8]) -> Result<(Boxed<Stmt>, usize), ReadError>
-    requires { length text.now < 2 ^ 31 }
-{
-    let tokens = px_lex::lex(alloc, text)?;
-    let lexemes = lexemes(alloc, text, &tokens)?;
-    let source = Source { alloc, bytes: text };
-    let mut tokens = Tokens { left: &lexemes };
-    let read = Boxed::new(alloc, source.simple(&mut tokens)?)?;
-    Ok((read, tokens.left.len()))
+#[test]
+fn simple_statements_are_read(rt: HostRuntime) -> Result<(), ParseError> {
+    for (text, form) in STATEMENTS {
+        let whole = within(rt.alloc(), b"class C { void f() { ", text, b"; } }")?;
+        assert!(rt; whole.len() < 2000);
+        let program = parse(rt.alloc(), &whole)?;
+        let first = statement(program.classes.as_slice()).expect(&rt, "a statement");
+        assert_eq!(rt; letter(&first.form), form, "at {text:?}");
+    }
+    Ok(())
 }
 
 #[test]
-fn simple_statements_are_read(rt: HostRuntime) -> Result<(), ReadError> {
-    for (text, form) in STATEMENTS {
-        assert!(rt; text.len() < 100);
-        let (read, left) = read_simple(rt.alloc(), text)?;
-        assert_eq!(rt; (letter(&read.get().form), left), (form, 1), "at {text:?}");
-    }
+fn literals_are_read(rt: HostRuntime) -> Result<(), ParseError> {
+    let program = parse(
+        rt.alloc(),
+        b"class C { String f() { return \"a\\n\\t\\\"\\\\n\"; } }",
+    )?;
+    let text = returned(program.classes.as_slice()).expect(&rt, "a value");
+    let ExprForm::Str(bytes) = &text.form else {
+        panic!(rt; "no text");
+    };
+    assert_eq!(rt; bytes.as_slice(), b"a\n\t\"\\n".as_slice());
     Ok(())
 }

@@ -1,5 +1,5 @@
 //! Texts that are programs, and texts with the line at which they are refused.
-use super::parse_line;
+use super::{parse_line, within};
 use std::alloc::{AllocError, Global};
 
 // A text, and the line at which it is refused; none where it is a program.
@@ -161,14 +161,6 @@ const VALUES: [Case; 24] = [
     (b"a ==\n", Some(2)),
     (b"a\n? b : c", Some(2)),
 ];
-
-// The text between two others.
-fn within(alloc: Global, before: &[u8], text: &[u8], behind: &[u8]) -> Result<Vec<u8>, AllocError> {
-    let mut whole = Vec::from_slice(alloc, before)?;
-    whole.extend_from_slice(text)?;
-    whole.extend_from_slice(behind)?;
-    Ok(whole)
-}
 
 #[test]
 fn texts_are_refused_at_these_lines(rt: HostRuntime) -> Result<(), AllocError> {
