@@ -3,6 +3,7 @@ mod answers;
 mod check;
 mod damaged;
 mod outside;
+mod rules;
 mod solo;
 
 use crate::top::still;
