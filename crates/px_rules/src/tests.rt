@@ -1,4 +1,5 @@
-use crate::{Breach, CheckError, Checked, Fact, Named, Ty, check, first_breach};
+use crate::{Breach, CheckError, check, first_breach};
+use px_facts::{Checked, Element, Fact, Named, Ty};
 use px_tree::{
     Access, Base, Class, Expr, ExprForm, FieldDecl, Member, Method, Name, Param, Program, Sign,
     Stmt, StmtForm, TypeName,
@@ -176,7 +177,7 @@ fn facts_are_in_the_order_of_the_text(rt: HostRuntime) -> Result<(), CheckError>
         is_fact(
             c,
             4,
-            Ty::Array(crate::Element::Int),
+            Ty::Array(Element::Int),
             Named::NewArray { site: 1 }
         )
     );
