@@ -5,7 +5,6 @@ ghost use Rattle.px_rules.specs.Bodies as bodies;
 ghost use Rattle.px_rules.specs.Checked as specs;
 
 use crate::bodies::Known;
-use px_facts::{Checked, ClassFact, Facts, Main};
 use crate::classes::{FieldType, Members};
 use crate::declare::declare_classes;
 use crate::error::CheckError;
@@ -15,9 +14,9 @@ use crate::numbers::sum;
 use crate::program::first_breach;
 use crate::report::Report;
 use crate::sites::with_sites;
-use px_facts::Ty;
-use px_tree::{Class, Program};
+use px_facts::{Checked, ClassFact, Facts, Main, Ty};
 use px_lex::Token;
+use px_tree::{Class, Program};
 use sqlite_items::{Items, at};
 use std::alloc::{AllocError, Global};
 
