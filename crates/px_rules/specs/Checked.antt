@@ -17,7 +17,7 @@ use Rattle.px_facts.specs.declared.checked.Checked.{Checked}
 use Rattle.px_rules.specs.declared.error.CheckError.{CheckError}
 use Rattle.px_rules.specs.declared.error.CheckError.TheVariants.{TypeFault}
 use Rattle.px_rules.specs.Programs.{first_breach_of}
-use Rattle.px_rules.specs.Bodies.{home_of, all_found}
+use Rattle.px_rules.specs.Bodies.{Found, home_of, all_found}
 use Rattle.px_rules.specs.Sites.{sited}
 use Rattle.px_rules.specs.Entries.{main_from}
 
@@ -43,11 +43,16 @@ type_in f = f.ty
 abbrev pub class_known : Members → ClassFact
 class_known ms = record { fields = map type_in ms.fields.values }
 
+-- with the numbers of `new` expressions
+abbrev pub numbered : Known → Known
+numbered known = record known { nodes = sited 1 known.nodes }
+
+abbrev pub known_from : Found → Known
+known_from found = record { nodes = found.nodes; methods = found.methods }
+
 -- the methods of all classes, and what is in them
 abbrev pub known_in : Home → List Class → Known
-known_in home classes =
-    let found = all_found home classes in
-    record { nodes = sited 1 found.nodes; methods = found.methods }
+known_in home classes = numbered (known_from (all_found home classes))
 
 abbrev pub with_known : Known → List ClassFact → Main → Facts
 with_known known classes main = record { nodes = known.nodes; classes = classes; methods = known.methods; main = main }

@@ -1,5 +1,5 @@
 -- What names stand for in a program that keeps the rules (JLS 6.5).
-use Rattle.std.specs.Prelude.{ℕ, zero, suc, ◌+◌, List, [], ◌∷◌, Option, Some, None, length, slice_get}
+use Rattle.std.specs.Prelude.{ℕ, zero, suc, ◌+◌, List, Option, Some, None, slice_get}
 use Rattle.std.specs.Option.{option_and_then}
 use Rattle.px_facts.specs.declared.types.Ty.{Ty}
 use Rattle.px_facts.specs.declared.types.Ty.TheVariants as ty
@@ -12,7 +12,7 @@ use Rattle.px_rules.specs.declared.home.Home.{Home}
 use Rattle.px_rules.specs.declared.scope.Slot.{Slot}
 use Rattle.px_rules.specs.declared.scope.Scope.{Scope}
 use Rattle.px_rules.specs.Names.{place_of, find}
-use Rattle.px_rules.specs.Members.{class_type, members_of, field_of, method_of}
+use Rattle.px_rules.specs.Members.{members_of, field_of, method_of}
 use Rattle.px_rules.specs.Expressions.{found_type, result_of}
 use Rattle.px_rules.specs.Slots.{slot_of}
 

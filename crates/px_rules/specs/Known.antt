@@ -1,5 +1,5 @@
 -- What is known of an expression, and of those in it.
-use Rattle.std.specs.Prelude.{ℕ, List, [], ◌∷◌, ◌++◌, Option, Some, None}
+use Rattle.std.specs.Prelude.{ℕ, List, [], ◌∷◌, ◌++◌, Some, None}
 use Rattle.px_tree.specs.declared.Expr.{Expr, Expr-F, fold-Expr}
 use Rattle.px_tree.specs.declared.ExprForm.{ExprForm, ExprForm-F, fold-ExprForm}
 use Rattle.px_tree.specs.declared.ExprForm.TheOpen.{ExprForm-F as e}

@@ -1,10 +1,10 @@
 -- What is known of a statement, and of the statements and expressions in it.
-use Rattle.std.specs.Prelude.{ℕ, List, [], ◌∷◌, ◌++◌, Option, Some, None, length}
+use Rattle.std.specs.Prelude.{List, [], ◌∷◌, ◌++◌, Option, Some, None, length}
 use Rattle.px_tree.specs.declared.Name.{Name}
 use Rattle.px_tree.specs.declared.TypeName.{TypeName}
 use Rattle.px_tree.specs.declared.Expr.{Expr}
 use Rattle.px_tree.specs.declared.Stmt.{Stmt, Stmt-F, fold-Stmt}
-use Rattle.px_tree.specs.declared.StmtForm.{StmtForm, StmtForm-F, fold-StmtForm}
+use Rattle.px_tree.specs.declared.StmtForm.{StmtForm-F}
 use Rattle.px_tree.specs.declared.StmtForm.TheOpen.{StmtForm-F as st}
 use Rattle.px_facts.specs.declared.checked.Fact.{Fact}
 use Rattle.px_rules.specs.declared.home.Home.{Home}

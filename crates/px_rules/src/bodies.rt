@@ -3,12 +3,12 @@ ghost use Rattle.std.specs.Prelude.{◌≡◌, ◌∷◌, [], ◌++◌, IfOk, On
 ghost use Rattle.px_rules.specs.Bodies as bodies;
 ghost use Rattle.px_rules.specs.Slots.{first_scope};
 
-use px_facts::{Fact, MethodFact};
 use crate::declare::param_types;
 use crate::home::Home;
 use crate::members::{result_type, type_of};
 use crate::numbers::narrow;
 use crate::scope::Scope;
+use px_facts::{Fact, MethodFact};
 use px_tree::{Class, Member, Method, Param};
 use sqlite_items::Items;
 use std::alloc::{AllocError, Global};

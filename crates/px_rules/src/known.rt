@@ -2,14 +2,13 @@
 ghost use Rattle.std.specs.Prelude.{◌≡◌, ◌++◌, map, IfOk, OnOk};
 ghost use Rattle.px_rules.specs.Known.{known, known_form, all_facts, argument_facts};
 
-use px_facts::{Fact, Named};
 use crate::home::Home;
 use crate::literal::literal_type;
 use crate::lookup::{new_array_fact, typed_only};
 use crate::members::base_type;
 use crate::operators::{group_of, group_type, prefix_type};
 use crate::scope::Scope;
-use px_facts::Ty;
+use px_facts::{Fact, Named, Ty};
 use px_tree::{Expr, ExprForm};
 use sqlite_items::Items;
 use std::alloc::AllocError;

@@ -3,11 +3,10 @@ ghost use Rattle.std.specs.Prelude.{◌≡◌, IfOk};
 ghost use Rattle.px_rules.specs.Facts as facts;
 ghost use Rattle.px_rules.specs.Slots.{slot_of};
 
-use px_facts::{Fact, Named};
 use crate::home::Home;
 use crate::numbers::{narrow, sum};
 use crate::scope::{Scope, Slot};
-use px_facts::Ty;
+use px_facts::{Fact, Named, Ty};
 use sqlite_items::at;
 use std::alloc::AllocError;
 

@@ -2,11 +2,10 @@
 ghost use Rattle.std.specs.Prelude.{◌≡◌, ◌++◌, map, IfOk, OnOk};
 ghost use Rattle.px_rules.specs.Entries as specs;
 
-use px_facts::{Entry, Main};
 use crate::members::{result_type, type_of};
 use crate::numbers::{narrow, sum};
 use crate::table::Table;
-use px_facts::Ty;
+use px_facts::{Entry, Main, Ty};
 use px_tree::{Access, Class, Member, Method, Param};
 use px_value::Text;
 use sqlite_items::{Items, at};

@@ -10,8 +10,8 @@ use crate::declare::declare_classes;
 use crate::entries::check_main;
 use crate::report::Report;
 use px_facts::Ty;
-use px_tree::{Class, Member, Program};
 use px_lex::Token;
+use px_tree::{Class, Member, Program};
 use std::alloc::{AllocError, Global};
 
 // The greatest number of a token.

@@ -2,8 +2,8 @@
 ghost use Rattle.std.specs.Prelude.{◌≡◌, IfOk};
 ghost use Rattle.px_rules.specs.Sites as sites;
 
-use px_facts::{Fact, Named};
 use crate::numbers::sum;
+use px_facts::{Fact, Named};
 use sqlite_items::Items;
 use std::alloc::{AllocError, Global};
 

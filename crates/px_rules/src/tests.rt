@@ -1,4 +1,5 @@
-use crate::{Breach, CheckError, Checked, Fact, Named, Ty, check, first_breach};
+use crate::{Breach, CheckError, check, first_breach};
+use px_facts::{Checked, Element, Fact, Named, Ty};
 use px_tree::{
     Access, Base, Class, Expr, ExprForm, FieldDecl, Member, Method, Name, Param, Program, Sign,
     Stmt, StmtForm, TypeName,
@@ -172,14 +173,7 @@ fn facts_are_in_the_order_of_the_text(rt: HostRuntime) -> Result<(), CheckError>
     assert!(rt; is_fact(c, 1, Ty::Void, Named::Nothing));
     assert!(rt; is_fact(c, 2, Ty::Long, Named::Local(2)));
     assert!(rt; is_fact(c, 3, Ty::Int, Named::ArrayLength));
-    assert!(rt;
-        is_fact(
-            c,
-            4,
-            Ty::Array(crate::Element::Int),
-            Named::NewArray { site: 1 }
-        )
-    );
+    assert!(rt; is_fact(c, 4, Ty::Array(Element::Int), Named::NewArray { site: 1 }));
     assert!(rt; is_fact(c, 5, Ty::Int, Named::Local(1)));
     assert!(rt; is_fact(c, 6, Ty::Long, Named::Local(3)));
     assert!(rt; is_fact(c, 7, Ty::Long, Named::Field { class: 0, place: 1 }));

@@ -6,12 +6,11 @@ ghost use Rattle.px_rules.specs.Known.{known, all_facts};
 ghost use Rattle.px_rules.specs.Told as specs;
 ghost use Rattle.px_rules.specs.Told.{told};
 
-use px_facts::{Fact, Named};
 use crate::home::Home;
 use crate::lookup::{changed_fact, local_fact};
 use crate::members::type_of;
 use crate::scope::Scope;
-use px_facts::Ty;
+use px_facts::{Fact, Named, Ty};
 use px_tree::{Expr, Name, Stmt, StmtForm, TypeName};
 use sqlite_items::{Boxed, Items};
 use std::alloc::{AllocError, Global};

@@ -5,7 +5,6 @@ ghost use Rattle.px_rules.specs.Bodies as bodies;
 ghost use Rattle.px_rules.specs.Checked as specs;
 
 use crate::bodies::Known;
-use px_facts::{Checked, ClassFact, Facts, Main};
 use crate::classes::{FieldType, Members};
 use crate::declare::declare_classes;
 use crate::error::CheckError;
@@ -15,9 +14,9 @@ use crate::numbers::sum;
 use crate::program::first_breach;
 use crate::report::Report;
 use crate::sites::with_sites;
-use px_facts::Ty;
-use px_tree::{Class, Program};
+use px_facts::{Checked, ClassFact, Facts, Main, Ty};
 use px_lex::Token;
+use px_tree::{Class, Program};
 use sqlite_items::{Items, at};
 use std::alloc::{AllocError, Global};
 
@@ -52,7 +51,15 @@ fn find_facts(alloc: Global, program: &Program) -> Result<Facts, AllocError>
     ensures { IfOk result (λ facts. facts ≡ specs.facts_of program.now) }
 {
     let classes = program.classes.as_slice();
-    let home = find_home(alloc, classes)?;
+    let mut home = find_home(alloc, classes)?;
+    facts_in(alloc, &mut home, classes)
+}
+
+// What is known of these classes, from the first on.
+fn facts_in(alloc: Global, home: &mut Home, classes: &[Class]) -> Result<Facts, AllocError>
+    requires { home.old.this ≡ 0 }
+    ensures { IfOk result (λ facts. facts ≡ specs.facts_in home.old classes.now) }
+{
     let main = find_main(
         alloc,
         &home.classes.numbers,
@@ -77,16 +84,22 @@ fn with_known(known: Known, classes: Items<ClassFact>, main: Main) -> Facts
 }
 
 // What is in the methods of all classes, from the first on.
-fn find_known(alloc: Global, home: Home, classes: &[Class]) -> Result<Known, AllocError>
-    requires { home.this ≡ 0 }
-    ensures { IfOk result (λ known. known ≡ specs.known_in home classes.now) }
+fn find_known(alloc: Global, home: &mut Home, classes: &[Class]) -> Result<Known, AllocError>
+    requires { home.old.this ≡ 0 }
+    ensures { IfOk result (λ known. known ≡ specs.known_in home.old classes.now) }
 {
-    let mut home = home;
     let mut known = Known {
         nodes: Items::new(alloc),
         methods: Items::new(alloc),
     };
     home.all_bodies(alloc, &mut known, classes)?;
+    numbered(alloc, known)
+}
+
+// With the numbers of `new` expressions.
+fn numbered(alloc: Global, known: Known) -> Result<Known, AllocError>
+    ensures { IfOk result (λ all. all ≡ specs.numbered known) }
+{
     let Known { nodes, methods } = known;
     let nodes = with_sites(alloc, nodes.as_slice())?;
     Ok(Known { nodes, methods })

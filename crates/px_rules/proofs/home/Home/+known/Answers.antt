@@ -1,9 +1,9 @@
-use Rattle.std.proofs.Common.{◌≡◌, List, [], ◌∷◌, ◌++◌, Some, map, sym, ap, ◌∙◌, slice_set}
+use Rattle.std.proofs.Common.{List, ◌∷◌, ◌++◌, map, sym, ap, ◌∙◌, slice_set}
 use Rattle.px_tree.specs.declared.ExprForm.TheVariants.{Call}
 use Rattle.px_facts.specs.declared.checked.Fact.{Fact}
 use Rattle.px_facts.specs.Types.{indexed}
-use Rattle.px_rules.specs.Operators.{group_of, group_type}
-use Rattle.px_rules.specs.Facts.{typed_only, method_fact, variable_fact, new_fact}
+use Rattle.px_rules.specs.Operators.{group_type}
+use Rattle.px_rules.specs.Facts.{typed_only, method_fact, new_fact}
 use Rattle.px_rules.specs.Known.{Known, known, known_form, all_facts, argument_facts}
 use Rattle.px_rules.proofs.KnownForms.{known_by_form, known_number, known_text, known_null, known_this, known_name, known_index, known_call, known_new, known_binary, no_more, filled, both_added, on_ok, same_ok}
 use Rattle.px_rules.proofs.home.Home.+known.Goals as goal

@@ -1,4 +1,0 @@
-use Rattle.px_rules.proofs.verdict.find_known.Goals as goal
-
-pub returns : goal.returns
-returns t c = ?
