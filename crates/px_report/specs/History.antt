@@ -4,9 +4,9 @@ use Rattle.std.specs.List.{flat_map}
 use Rattle.px_code.specs.declared.event.Event.{Event}
 use Rattle.px_code.specs.declared.event.Event.TheVariants.{Begin, End}
 use Rattle.px_code.specs.declared.reply.Done.{Done}
-use Rattle.px_mean.specs.declared.serial.Session.{Session}
-use Rattle.px_report.specs.Words.{quoted, reply_text, part_name}
-use Rattle.px_report.specs.Lines.{line, state_text}
+use Rattle.px_value.specs.declared.object.Object.{Object}
+use Rattle.px_report.specs.Words.{reply_text, part_name}
+use Rattle.px_report.specs.Lines.{line, print_line, state_text}
 
 abbrev pub begin_line : ℕ → ℕ → ℕ → List ℕ
 begin_line session call attempt = line (codes "begin" ∷ decimal session ∷ decimal call ∷ decimal attempt ∷ [])
@@ -23,14 +23,11 @@ end_line parts session done =
     ∷ codes "rehome" ∷ decimal done.rehome
     ∷ [])
 
-abbrev pub print_line : ℕ → List ℕ → List ℕ
-print_line session printed = line (codes "print" ∷ decimal session ∷ quoted printed ∷ [])
-
 abbrev pub event_text : List (List ℕ) → Event → List ℕ
 event_text parts (Begin session call attempt) = begin_line session call attempt
 event_text parts (End session done) = end_line parts session done ++ flat_map (print_line session) done.prints
 
 -- the events in order, and what the calls leave
-unfoldable pub report_text : List (List ℕ) → List (List ℕ) → List Event → List Session → List ℕ
-report_text classes parts events sessions =
-    line (codes "history" ∷ []) ++ flat_map (event_text parts) events ++ state_text classes sessions
+unfoldable pub report_text : List (List ℕ) → List (List ℕ) → List Event → List (List Object) → List ℕ
+report_text classes parts events heaps =
+    line (codes "history" ∷ []) ++ flat_map (event_text parts) events ++ state_text classes heaps

@@ -1,10 +1,11 @@
 //! The lines of the events.
 ghost use Rattle.std.specs.Prelude.{◌≡◌, ◌++◌, OnOk};
 ghost use Rattle.std.specs.List.{flat_map};
-ghost use Rattle.px_report.specs.History.{begin_line, end_line, event_text, print_line};
+ghost use Rattle.px_report.specs.History.{begin_line, end_line, event_text};
 
 use crate::names::part_name;
-use crate::words::{push_labelled, push_quoted, push_reply};
+use crate::prints::push_prints;
+use crate::words::{push_labelled, push_reply};
 use px_code::{Done, Event};
 use px_value::Text;
 use std::alloc::AllocError;
@@ -32,25 +33,6 @@ fn push_end(text: &mut Vec<u8>, parts: &[Text], session: u16, done: &Done) -> Re
     push_labelled(text, b" bytes ", done.bytes)?;
     push_labelled(text, b" rehome ", done.rehome)?;
     text.push(b'\n')?;
-    Ok(())
-}
-
-fn push_print(text: &mut Vec<u8>, session: u16, printed: &[u8]) -> Result<(), AllocError>
-    ensures { OnOk result (text.new.items ≡ text.old.items ++ print_line session printed.now) }
-{
-    push_labelled(text, b"print ", session)?;
-    text.push(b' ')?;
-    push_quoted(text, printed)?;
-    text.push(b'\n')?;
-    Ok(())
-}
-
-fn push_prints(text: &mut Vec<u8>, session: u16, prints: &[Text]) -> Result<(), AllocError>
-    ensures { OnOk result (text.new.items ≡ text.old.items ++ flat_map (print_line session) prints.now) }
-{
-    for printed in prints {
-        push_print(text, session, printed.as_slice())?;
-    }
     Ok(())
 }
 

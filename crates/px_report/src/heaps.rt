@@ -6,8 +6,7 @@ ghost use Rattle.px_report.specs.Words.{value_text};
 
 use crate::names::push_kind_name;
 use crate::words::{push_number, push_value};
-use px_mean::Session;
-use px_value::{Object, Text, Value};
+use px_value::{Heap, Object, Text, Value};
 use std::alloc::AllocError;
 
 // Each value behind a space.
@@ -50,25 +49,21 @@ fn push_heap(
     text: &mut Vec<u8>,
     classes: &[Text],
     number: usize,
-    session: &Session,
+    heap: &Heap,
 ) -> Result<(), AllocError>
-    ensures { OnOk result (text.new.items ≡ text.old.items ++ heap_text classes.now number session.now) }
+    ensures { OnOk result (text.new.items ≡ text.old.items ++ heap_text classes.now number heap.now) }
 {
     text.extend_from_slice(b"heap ")?;
     push_number(text, number)?;
     text.push(b'\n')?;
-    push_objects(text, classes, session.heap.as_slice())
+    push_objects(text, classes, heap.as_slice())
 }
 
-pub fn push_heaps(
-    text: &mut Vec<u8>,
-    classes: &[Text],
-    sessions: &[Session],
-) -> Result<(), AllocError>
-    ensures { OnOk result (text.new.items ≡ text.old.items ++ numbered (heap_text classes.now) 1 sessions.now) }
+pub fn push_heaps(text: &mut Vec<u8>, classes: &[Text], heaps: &[Heap]) -> Result<(), AllocError>
+    ensures { OnOk result (text.new.items ≡ text.old.items ++ numbered (heap_text classes.now) 1 heaps.now) }
 {
-    for (place, session) in sessions.iter().enumerate() {
-        push_heap(text, classes, place + 1, session)?;
+    for (place, heap) in heaps.iter().enumerate() {
+        push_heap(text, classes, place + 1, heap)?;
     }
     Ok(())
 }

@@ -5,6 +5,7 @@ mod calls;
 mod events;
 mod heaps;
 mod names;
+mod prints;
 mod refusal;
 mod report;
 mod run;
@@ -13,6 +14,7 @@ mod state;
 mod tests;
 mod words;
 
+pub use calls::ShownCall;
 pub use refusal::refusal_text;
 pub use report::report_text;
 pub use run::run_text;

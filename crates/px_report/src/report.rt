@@ -5,8 +5,7 @@ ghost use Rattle.px_report.specs.History.{report_text};
 use crate::events::push_events;
 use crate::state::push_state;
 use px_code::Event;
-use px_mean::Session;
-use px_value::Text;
+use px_value::{Heap, Text};
 use std::alloc::{AllocError, Global};
 
 /// The events, and what each session's heap holds. A class and a part have the names that stand at their numbers.
@@ -16,12 +15,12 @@ pub fn report_text(
     classes: &[Text],
     parts: &[Text],
     events: &[Event],
-    sessions: &[Session],
+    heaps: &[Heap],
 ) -> Result<Vec<u8>, AllocError>
-    ensures { IfOk result (λ text. text.items ≡ report_text classes.now parts.now events.now sessions.now) }
+    ensures { IfOk result (λ text. text.items ≡ report_text classes.now parts.now events.now heaps.now) }
 {
     let mut text = Vec::from_slice(alloc, b"history\n")?;
     push_events(&mut text, parts, events)?;
-    push_state(&mut text, classes, sessions)?;
+    push_state(&mut text, classes, heaps)?;
     Ok(text)
 }

@@ -5,7 +5,7 @@ ghost use Rattle.px_report.specs.Words.{escaped, quoted, reply_text, value_text}
 
 use crate::names::thrown_name;
 use itoa::{Buffer, Integer};
-use px_mean::Reply;
+use px_code::Reply;
 use px_value::Value;
 use std::alloc::AllocError;
 

@@ -1,17 +1,16 @@
 use super::text;
 use crate::report_text;
 use px_code::{Done, Event, Reply};
-use px_mean::Session;
 use px_value::{Header, Heap, Kind, Text, Thrown, Value, Values};
 use sqlite_items::Items;
 use std::alloc::{AllocError, Global};
 use std::test::Fail;
 
-// A history, and the text that it and the sessions have.
+// A history, and the text that it and the heaps have.
 #[derive(Drop)]
 struct Case {
     events: Vec<Event>,
-    sessions: Vec<Session>,
+    heaps: Vec<Heap>,
     expected: &'static [u8],
 }
 
@@ -40,7 +39,7 @@ fn counter(alloc: Global, value: i64) -> Result<Heap, Fail> {
 fn nothing(alloc: Global) -> Case {
     Case {
         events: Vec::new(alloc),
-        sessions: Vec::new(alloc),
+        heaps: Vec::new(alloc),
         expected: b"history\ntables\nheaps\ndone\n",
     }
 }
@@ -58,7 +57,7 @@ fn at_one_side(alloc: Global) -> Result<Case, Fail> {
     let heap = counter(alloc, 33)?;
     Ok(Case {
         events: vec![in alloc; begin(1, 1, 1), Event::End { session: 1, done }]?,
-        sessions: vec![in alloc; Session { heap, calls: 1 }]?,
+        heaps: vec![in alloc; heap]?,
         expected: b"history
 begin 1 1 1
 end 1 11 part app avg 0 moves 0 bytes 9 rehome 0
@@ -111,7 +110,7 @@ fn with_prints(alloc: Global) -> Result<Case, AllocError> {
                 done: void
             },
         ]?,
-        sessions: Vec::new(alloc),
+        heaps: Vec::new(alloc),
         expected: b"history
 begin 16 2000 1
 begin 2 3 10
@@ -135,7 +134,7 @@ fn a_history_is_printed(rt: HostRuntime) -> Result<(), Fail> {
     let parts = vec![in alloc; text(alloc, b"app")?, text(alloc, b"high")?]?;
     let cases = [nothing(alloc), at_one_side(alloc)?, with_prints(alloc)?];
     for case in &cases {
-        let text = report_text(alloc, &classes, &parts, &case.events, &case.sessions)?;
+        let text = report_text(alloc, &classes, &parts, &case.events, &case.heaps)?;
         assert_eq!(rt; text.as_slice(), case.expected);
     }
     Ok(())

@@ -1,9 +1,10 @@
 ghost use Rattle.std.specs.Prelude.{◌≡◌, length, IfOk};
 
 use super::text;
-use crate::run_text;
-use px_mean::{Made, Reply, Session};
-use px_value::{Header, Heap, Kind, Thrown, Value, Values};
+use crate::{ShownCall, run_text};
+use px_code::{Reply, Shown};
+use px_value::{Header, Heap, Kind, Text, Thrown, Value, Values};
+use sqlite_items::Items;
 use std::alloc::{AllocError, Global};
 use std::test::Fail;
 
@@ -22,28 +23,31 @@ fn cells(alloc: Global) -> Result<Values, AllocError>
     Ok(cells)
 }
 
+fn call(session: u16, number: u64, reply: Reply, prints: Items<Text>) -> ShownCall {
+    ShownCall {
+        session,
+        number,
+        shown: Shown { reply, prints },
+    }
+}
+
+fn printed(alloc: Global) -> Result<Items<Text>, AllocError> {
+    let mut prints = Items::new(alloc);
+    prints.push(text(alloc, b"")?)?;
+    prints.push(text(alloc, b"a")?)?;
+    Ok(prints)
+}
+
 #[test]
 fn a_run_is_printed(rt: HostRuntime) -> Result<(), Fail> {
     let alloc = rt.alloc();
     let void = Reply::Void;
     let value = Reply::Value(Value::Long(-70));
     let threw = Reply::Threw(Thrown::NullPointerException);
-    let made = vec![in alloc;
-        Made {
-            session: 2,
-            number: 1,
-            reply: void
-        },
-        Made {
-            session: 1,
-            number: 1,
-            reply: value
-        },
-        Made {
-            session: 2,
-            number: 2,
-            reply: threw
-        },
+    let calls = vec![in alloc;
+        call(2, 1, void, Items::new(alloc)),
+        call(1, 1, value, printed(alloc)?),
+        call(2, 2, threw, Items::new(alloc)),
     ]?;
     let classes = vec![in alloc; text(alloc, b"Main")?, text(alloc, b"Node")?]?;
     let mut heap = Heap::new(alloc);
@@ -69,17 +73,13 @@ fn a_run_is_printed(rt: HostRuntime) -> Result<(), Fail> {
     };
     let mut full = Heap::new(alloc);
     full.add(header, cells(alloc)?)?;
-    let sessions = vec![in alloc;
-        Session {
-            heap: full,
-            calls: 1
-        },
-        Session { heap, calls: 2 },
-    ]?;
-    let text = run_text(alloc, &classes, &made, &sessions)?;
+    let heaps = vec![in alloc; full, heap]?;
+    let text = run_text(alloc, &classes, &calls, &heaps)?;
     let expected = b"calls
 call 2 1 void
 call 1 1 -70
+print 1 \"\"
+print 1 \"a\"
 call 2 2 threw NullPointerException
 tables
 heaps

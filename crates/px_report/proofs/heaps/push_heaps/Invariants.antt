@@ -4,4 +4,4 @@ use Rattle.px_report.proofs.heaps.push_heaps.Given as goal
 
 abbrev pub invariant-loop-place : goal.invariant-loop-place
 invariant-loop-place l =
-    l.text.items ++ numbered (heap_text l.classes) (l.place + 1) (drop l.place l.sessions) ≡ l.fn.text.items ++ numbered (heap_text l.classes) 1 l.sessions
+    l.text.items ++ numbered (heap_text l.classes) (l.place + 1) (drop l.place l.heaps) ≡ l.fn.text.items ++ numbered (heap_text l.classes) 1 l.heaps

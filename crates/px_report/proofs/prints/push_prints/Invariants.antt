@@ -1,7 +1,7 @@
 use Rattle.std.proofs.Common.{◌≡◌, ◌++◌, drop}
 use Rattle.std.specs.List.{flat_map}
-use Rattle.px_report.specs.History.{print_line}
-use Rattle.px_report.proofs.events.push_prints.Given as goal
+use Rattle.px_report.specs.Lines.{print_line}
+use Rattle.px_report.proofs.prints.push_prints.Given as goal
 
 abbrev pub invariant-loop-printed : goal.invariant-loop-printed
 invariant-loop-printed l =
