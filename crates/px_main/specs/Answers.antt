@@ -4,6 +4,7 @@ use Rattle.px_lex.specs.declared.tree.Program.{Program}
 use Rattle.px_lex.specs.Unbuilt.{unbuilt_line}
 use Rattle.px_parse.specs.Programs.{IsProgram}
 use Rattle.px_types.specs.declared.checked.Checked.{Checked}
+use Rattle.px_facts.specs.declared.checked.Checked.{Checked as WholeChecked}
 use Rattle.px_types.specs.declared.program.Known.{Known}
 use Rattle.px_types.specs.Programs.{judged}
 use Rattle.px_lower.specs.Programs.{lowered}
@@ -21,8 +22,8 @@ use Rattle.px_main.specs.declared.fault.Fault.{Fault}
 use Rattle.px_main.specs.declared.fault.ProgramCode.{ProgramCode}
 use Rattle.px_main.specs.declared.fault.ProgramCode.TheVariants.{TooLong, Syntax, Rule, Later}
 use Rattle.px_main.specs.Commands.{Command, Checks, Serves}
-use Rattle.px_main.specs.Whole.{fault_at, IsFaultOf, JudgesWhole}
-use Rattle.px_main.specs.Run.{run_of, text_of}
+use Rattle.px_main.specs.Whole.{Found, fault_at, IsFound, JudgesWhole}
+use Rattle.px_main.specs.Run.{entries_of, run_of, text_of}
 use Rattle.px_main.specs.Solo.{IsReport}
 
 abbrev pub max_program : ℕ
@@ -35,36 +36,36 @@ max_job = 16777216
 abbrev pub kept : ℕ → List ℕ → Option (List ℕ)
 kept limit file = if nat_lt limit (length file) then None else Some file
 
--- ---- the program
+-- ---- the program of `solo`, which is built for the small language
 
 abbrev pub refused_at : ℕ → ProgramCode → Result Checked Fault
 refused_at number code = Err (fault_at number code)
 
--- what the checker of today's language knows of the program; where it knows nothing, a form in it isn't built yet
+-- what the checker of the small language knows of the program; where it knows nothing, a form in it isn't built yet
 abbrev pub typed : Program → Option Known → Result Checked Fault
 typed program None = refused_at 0 Later
 typed program (Some known) = Ok (record { program = program; facts = known.facts; entries = known.entries })
 
--- A text by the grammar of today's language, which gives it one program at most.
+-- A text by the grammar of the small language, which gives it one program at most.
 pub data IsParsed (bytes : List ℕ) (outcome : Result Checked Fault) : Type 0 where
   unbuilt : ((p : Program) → IsProgram bytes p → ⊥) → outcome ≡ refused_at 0 Later → IsParsed bytes outcome
   built : (p : Program) → IsProgram bytes p → outcome ≡ typed p (judged p) → IsParsed bytes outcome
 
-abbrev pub IsTaken : List ℕ → Option Fault → Result Checked Fault → Type 0
-IsTaken bytes (Some fault) outcome = outcome ≡ Err fault
-IsTaken bytes None outcome = IsParsed bytes outcome
+abbrev pub IsTaken : List ℕ → Found → Result Checked Fault → Type 0
+IsTaken bytes (Err fault) outcome = outcome ≡ Err fault
+IsTaken bytes (Ok checked) outcome = IsParsed bytes outcome
 
--- what is wrong with the text by the rules of the whole language, and what comes of it
+-- what is found in the text by the rules of the whole language, and what comes of it
 pub record IsRuled (bytes : List ℕ) (outcome : Result Checked Fault) : Type 0 where
-  pub found : Option Fault
-  pub is_found : IsFaultOf bytes found
+  pub found : Found
+  pub is_found : IsFound bytes found
   pub taken : IsTaken bytes found outcome
 
 abbrev pub IsBuilt : List ℕ → Option ℕ → Result Checked Fault → Type 0
 IsBuilt bytes (Some number) outcome = outcome ≡ refused_at number Later
 IsBuilt bytes None outcome = IsRuled bytes outcome
 
--- What comes of a program file that is served, of which nothing is kept where it is too long. The first of these applies:
+-- What comes of a program file that is served by two ends, of which nothing is kept where it is too long. The first of these applies:
 -- it is too long; a form in it isn't built yet; there is a fault in its text; it is accepted.
 abbrev pub Judges : Option (List ℕ) → Result Checked Fault → Type 0
 Judges None outcome = outcome ≡ refused_at 0 TooLong
@@ -104,7 +105,7 @@ abbrev pub refused_by : JobFault → Answer
 refused_by f = refused_job f.line (job_code f.code)
 
 -- `a` is an answer over the calls that were read, or over what is wrong with them: `run` has one
-abbrev pub AnswersCalls : Checked → Result (List JobCall) JobFault → Answer → Type 0
+abbrev pub AnswersCalls : WholeChecked → Result (List JobCall) JobFault → Answer → Type 0
 AnswersCalls c (Err f) a = a ≡ refused_by f
 AnswersCalls c (Ok calls) a = a ≡ (0, text_of c (run_of c calls))
 
@@ -113,23 +114,37 @@ abbrev pub AnswersSplit : Checked → Result SplitJob JobFault → Answer → Ty
 AnswersSplit c (Err f) a = a ≡ refused_by f
 AnswersSplit c (Ok job) a = (a.0 ≡ 0) × IsReport c job a.1
 
-abbrev pub AnswersRead : Kind → Checked → List ℕ → Answer → Type 0
-AnswersRead Run c job a = AnswersCalls c (job_of c.entries job) a
-AnswersRead Solo c job a = AnswersSplit c (split_job_of c.entries (lowered c) job) a
+-- what a command makes of an accepted program and a job
+abbrev pub Answering : Type 0 → Type 1
+Answering C = C → List ℕ → Answer → Type 0
 
-abbrev pub AnswersJob : Kind → Checked → Option (List ℕ) → Answer → Type 0
-AnswersJob kind c None a = a ≡ refused_job 0 (codes "J2")
-AnswersJob kind c (Some job) a = AnswersRead kind c job a
+abbrev pub answers_run : Answering WholeChecked
+answers_run c job a = AnswersCalls c (job_of (entries_of c) job) a
 
-abbrev pub AnswersProgram : Kind → Result Checked Fault → Option (List ℕ) → Answer → Type 0
-AnswersProgram kind (Err f) job a = a ≡ refused_program f
-AnswersProgram kind (Ok c) job a = AnswersJob kind c job a
+abbrev pub answers_solo : Answering Checked
+answers_solo c job a = AnswersSplit c (split_job_of c.entries (lowered c) job) a
 
--- `a` is an answer to a command of this kind over what was kept of its two files
-pub record IsAnswer (kind : Kind) (program job : Option (List ℕ)) (a : Answer) : Type 0 where
-  pub outcome : Result Checked Fault
-  pub judges : Judges program outcome
-  pub answers : AnswersProgram kind outcome job a
+abbrev pub AnswersJob : {C : Type 0} → Answering C → C → Option (List ℕ) → Answer → Type 0
+AnswersJob answers c None a = a ≡ refused_job 0 (codes "J2")
+AnswersJob answers c (Some job) a = answers c job a
+
+abbrev pub AnswersProgram : {C : Type 0} → Answering C → Result C Fault → Option (List ℕ) → Answer → Type 0
+AnswersProgram answers (Err f) job a = a ≡ refused_program f
+AnswersProgram answers (Ok c) job a = AnswersJob answers c job a
+
+-- what comes of a program file
+abbrev pub Judging : Type 0 → Type 1
+Judging C = Option (List ℕ) → Result C Fault → Type 0
+
+-- `a` is an answer of a command that judges so and answers so, over what was kept of its two files
+pub record IsAnswerBy {C : Type 0} (judges : Judging C) (answers : Answering C) (program job : Option (List ℕ)) (a : Answer) : Type 0 where
+  pub outcome : Result C Fault
+  pub judged : judges program outcome
+  pub answered : AnswersProgram answers outcome job a
+
+abbrev pub IsAnswer : Kind → Option (List ℕ) → Option (List ℕ) → Answer → Type 0
+IsAnswer Run program job a = IsAnswerBy JudgesWhole answers_run program job a
+IsAnswer Solo program job a = IsAnswerBy Judges answers_solo program job a
 
 -- the same over the files
 abbrev pub Answers : Kind → List ℕ → List ℕ → Answer → Type 0
@@ -154,23 +169,29 @@ abbrev pub status_read : {A : Type 0} → Result A JobFault → ℕ
 status_read (Err f) = 6
 status_read (Ok job) = 0
 
-abbrev pub status_by : Kind → Checked → List ℕ → ℕ
-status_by Run c job = status_read (job_of c.entries job)
-status_by Solo c job = status_read (split_job_of c.entries (lowered c) job)
+abbrev pub status_run : WholeChecked → List ℕ → ℕ
+status_run c job = status_read (job_of (entries_of c) job)
 
-abbrev pub status_of_job : Kind → Checked → Option (List ℕ) → ℕ
-status_of_job kind c None = 6
-status_of_job kind c (Some job) = status_by kind c job
+abbrev pub status_solo : Checked → List ℕ → ℕ
+status_solo c job = status_read (split_job_of c.entries (lowered c) job)
 
-abbrev pub status_of : Kind → Result Checked Fault → Option (List ℕ) → ℕ
-status_of kind (Err f) job = 5
-status_of kind (Ok c) job = status_of_job kind c job
+abbrev pub status_of_job : {C : Type 0} → (C → List ℕ → ℕ) → C → Option (List ℕ) → ℕ
+status_of_job status c None = 6
+status_of_job status c (Some job) = status c job
+
+abbrev pub status_of : {C : Type 0} → (C → List ℕ → ℕ) → Result C Fault → Option (List ℕ) → ℕ
+status_of status (Err f) job = 5
+status_of status (Ok c) job = status_of_job status c job
 
 -- the program is judged, and then the job
-pub record HasStatus (kind : Kind) (program job : Option (List ℕ)) (n : ℕ) : Type 0 where
-  pub outcome : Result Checked Fault
-  pub judges : Judges program outcome
-  pub is : status_of kind outcome job ≡ n
+pub record HasStatusBy {C : Type 0} (judges : Judging C) (status : C → List ℕ → ℕ) (program job : Option (List ℕ)) (n : ℕ) : Type 0 where
+  pub outcome : Result C Fault
+  pub judged : judges program outcome
+  pub is : status_of status outcome job ≡ n
+
+abbrev pub HasStatus : Kind → Option (List ℕ) → Option (List ℕ) → ℕ → Type 0
+HasStatus Run program job n = HasStatusBy JudgesWhole status_run program job n
+HasStatus Solo program job n = HasStatusBy Judges status_solo program job n
 
 abbrev pub Statuses : Kind → List ℕ → List ℕ → ℕ → Type 0
 Statuses kind program job n = HasStatus kind (kept max_program program) (kept max_job job) n
@@ -183,13 +204,13 @@ FixesStatusBoth kind (Some program) (Some job) n = Statuses kind program job n
 
 -- ---- a program alone
 
-abbrev pub check_answer : Option Fault → Answer
-check_answer None = (0, line (codes "ok" ∷ []))
-check_answer (Some f) = refused_program f
+abbrev pub check_answer : Found → Answer
+check_answer (Ok checked) = (0, line (codes "ok" ∷ []))
+check_answer (Err f) = refused_program f
 
 -- `a` is the answer to `check` over what was kept of its file
 pub record IsChecked (program : Option (List ℕ)) (a : Answer) : Type 0 where
-  pub found : Option Fault
+  pub found : Found
   pub judges : JudgesWhole program found
   pub is : a ≡ check_answer found
 

@@ -1,29 +1,48 @@
--- The serial run of a job, and its text.
-use Rattle.std.specs.Prelude.{ℕ, List, Option, Some, None, map, slice_get}
-use Rattle.px_lex.specs.declared.tree.Program.{Program}
-use Rattle.px_lex.specs.declared.tree.Class.{Class}
-use Rattle.px_types.specs.declared.checked.Checked.{Checked}
+-- The serial run of a job by the meaning of the source, and its text.
+use Rattle.std.specs.Prelude.{ℕ, ◌+◌, List, [], ◌∷◌, map}
+use Rattle.px_value.specs.declared.object.Object.{Object}
+use Rattle.px_code.specs.declared.reply.Shown.{Shown}
+use Rattle.px_tree.specs.declared.Program.{Program}
+use Rattle.px_tree.specs.declared.Class.{Class}
+use Rattle.px_facts.specs.declared.checked.Checked.{Checked}
+use Rattle.px_facts.specs.declared.checked.Entry.{Entry as EntryFact}
 use Rattle.px_types.specs.declared.checked.Entry.{Entry}
-use Rattle.px_types.specs.Members.{methods_of}
-use Rattle.px_mean.specs.Serial.{Served, serial, Call}
-use Rattle.px_mean.specs.Program.{meaning_of, program_fields}
+use Rattle.px_semantics.specs.Program.{source_of}
+use Rattle.px_semantics.specs.Serial.{Call, Stand, serial}
 use Rattle.px_job.specs.declared.job.Call.{Call as JobCall}
+use Rattle.px_report.specs.declared.calls.ShownCall.{ShownCall}
 use Rattle.px_report.specs.Lines.{run_text}
 
--- the number of an entry's method
-abbrev pub method_at : Option Entry → ℕ
-method_at None = 0
-method_at (Some entry) = entry.method
+-- ---- the entries that a job may name
 
-abbrev pub wanted : List Entry → JobCall → Call
-wanted entries call = record { session = call.session; method = method_at (slice_get entries call.entry); args = call.args }
+abbrev pub entry_of : EntryFact → Entry
+entry_of e = record { name = e.name; method = e.method; params = e.params; gives = e.gives }
 
+abbrev pub entries_of : Checked → List Entry
+entries_of c = map entry_of c.facts.main.entries
+
+-- ---- the run
+
+abbrev pub wanted : JobCall → Call
+wanted call = record { session = call.session; entry = call.entry; args = call.args }
+
+abbrev pub Ran : Type 0
+Ran = List Shown × Stand (Unit {0})
+
+-- the calls in the order of the file, by the one session that there is; nothing outside the program is asked
+abbrev pub run_of : Checked → List JobCall → Ran
+run_of c calls = serial (source_of c) 1 tt (map wanted calls)
+
+-- ---- the text
+
+-- a class has the name that stands at its place
 abbrev pub class_names : Program → List (List ℕ)
 class_names program = map (λ (c : Class). c.name.bytes) program.classes
 
--- the serial run of all calls in the order of the file, by the one session that there is
-abbrev pub run_of : Checked → List JobCall → Served (Unit {0})
-run_of c calls = serial (meaning_of c.facts (methods_of c.program)) (program_fields c.program) 1 tt (map (wanted c.entries) calls)
+-- what the calls of the one session show, with their numbers from one on
+abbrev pub shown_from : ℕ → List Shown → List ShownCall
+shown_from number [] = []
+shown_from number (shown ∷ rest) = record { session = 1; number = number; shown = shown } ∷ shown_from (number + 1) rest
 
-abbrev pub text_of : Checked → Served (Unit {0}) → List ℕ
-text_of c served = run_text (class_names c.program) served.made served.sessions
+abbrev pub text_of : Checked → Ran → List ℕ
+text_of c ran = run_text (class_names c.program) (shown_from 1 ran.0) ran.1.heaps

@@ -1,5 +1,7 @@
 -- What `solo` reports: the calls of one session, served by two ends.
-use Rattle.std.specs.Prelude.{◌≡◌, ℕ, ◌+◌, List, [], ◌∷◌, map, slice_get}
+use Rattle.std.specs.Prelude.{◌≡◌, ℕ, ◌+◌, List, [], ◌∷◌, Option, Some, None, map, slice_get}
+use Rattle.px_lex.specs.declared.tree.Program.{Program}
+use Rattle.px_lex.specs.declared.tree.Class.{Class}
 use Rattle.px_types.specs.declared.checked.Checked.{Checked}
 use Rattle.px_types.specs.declared.checked.Entry.{Entry}
 use Rattle.px_types.specs.Members.{methods_of}
@@ -10,14 +12,20 @@ use Rattle.px_code.specs.declared.placement.Placement.{Placement}
 use Rattle.px_code.specs.declared.plan.Plan.{Plan}
 use Rattle.px_code.specs.declared.reply.Done.{Done}
 use Rattle.px_code.specs.Cut.{AreBlocks}
-use Rattle.px_mean.specs.Serial.{call_of, first_heap, Called as Meant}
+use Rattle.px_value.specs.declared.object.Object.{Object}
+use Rattle.px_mean.specs.declared.serial.Session.{Session}
+use Rattle.px_mean.specs.Serial.{call_of, first_heap, Called as Meant, Served, serial, Call as Wanted}
 use Rattle.px_mean.specs.Program.{meaning_of, program_fields}
 use Rattle.px_lower.specs.Programs.{lowered}
 use Rattle.px_job.specs.declared.job.Call.{Call as JobCall}
 use Rattle.px_job.specs.declared.job.SplitJob.{SplitJob}
 use Rattle.px_session.specs.Serving.{Call, Called, Calling, AreServed}
 use Rattle.px_report.specs.History.{report_text}
-use Rattle.px_main.specs.Run.{method_at, class_names, run_of}
+
+-- the number of an entry's method
+abbrev pub method_at : Option Entry → ℕ
+method_at None = 0
+method_at (Some entry) = entry.method
 
 -- a call of the job, as a session serves it
 abbrev pub asked : List Entry → JobCall → Call
@@ -30,6 +38,21 @@ left_by c = record { reply = c.reply; heap = c.heap }
 
 abbrev pub by_source : Checked → Calling
 by_source c heap call = left_by (call_of {W = Unit {0}} (meaning_of c.facts (methods_of c.program)) heap tt call.method call.args)
+
+-- ---- the serial run
+
+abbrev pub wanted : List Entry → JobCall → Wanted
+wanted entries call = record { session = call.session; method = method_at (slice_get entries call.entry); args = call.args }
+
+-- the calls in the order of the file, by the one session that there is
+abbrev pub serial_of : Checked → List JobCall → Served (Unit {0})
+serial_of c calls = serial (meaning_of c.facts (methods_of c.program)) (program_fields c.program) 1 tt (map (wanted c.entries) calls)
+
+abbrev pub heap_of : Session → List Object
+heap_of session = session.heap
+
+abbrev pub class_names : Program → List (List ℕ)
+class_names program = map (λ (c : Class). c.name.bytes) program.classes
 
 -- ---- the history
 
@@ -60,4 +83,4 @@ pub record AreDone (c : Checked) (placement : Placement) (calls : List JobCall) 
 pub record IsReport (c : Checked) (job : SplitJob) (text : List ℕ) : Type 0 where
   pub dones : List Done
   pub done : AreDone c job.part.sides job.calls dones
-  pub text_is : text ≡ report_text (class_names c.program) (job.part.name ∷ []) (history_of dones) (run_of c job.calls).sessions
+  pub text_is : text ≡ report_text (class_names c.program) (job.part.name ∷ []) (history_of dones) (map heap_of (serial_of c job.calls).sessions)

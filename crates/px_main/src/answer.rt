@@ -1,18 +1,17 @@
 //! The answer over two files.
 ghost use Rattle.std.specs.Prelude.{◌≡◌, ◌≤◌, length, IfOk, IfSome};
 ghost use Rattle.std.specs.Option.{option_map};
-ghost use Rattle.px_lower.specs.Programs.{lowered};
 ghost use Rattle.px_lower.specs.WellFormed.{IsJudged};
-ghost use Rattle.px_job.specs.Jobs.{job_of};
-ghost use Rattle.px_job.specs.SplitJobs.{split_job_of};
-ghost use Rattle.px_main.specs.Answers.{IsAnswer, IsChecked, AnswersCalls, AnswersSplit, AnswersJob, refused_program, refused_job, refused_by, program_code as code_of_program, job_code as code_of_job, max_program, max_job};
+ghost use Rattle.px_main.specs.Whole.{JudgesWhole};
+ghost use Rattle.px_main.specs.Answers.{IsAnswer, IsAnswerBy, IsChecked, Judges, answers_run, answers_solo, AnswersJob, refused_program, refused_job, refused_by, program_code as code_of_program, job_code as code_of_job, max_program, max_job};
 
 use crate::command::Kind;
 use crate::fault::{Fault, ProgramCode};
 use crate::judge::judge;
-use crate::run::run;
+use crate::run::{entries, run};
 use crate::solo::solo;
 use crate::whole::judge_whole;
+use px_facts::Checked as WholeChecked;
 use px_job::{JobCode, JobError, JobFault, read_job, read_split_job};
 use px_lower::lower;
 use px_report::refusal_text;
@@ -76,12 +75,12 @@ fn refused(alloc: Global, fault: JobFault) -> Result<Prepared, AllocError>
     job_refused(alloc, fault.line, job_code(fault.code))
 }
 
-fn answer_run(alloc: Global, checked: &Checked, bytes: &[u8]) -> Result<Prepared, AllocError>
-    requires judged { IsJudged checked.now }
-    requires fits { length bytes.now ≤ max_job }
-    ensures { IfOk result (λ a. AnswersCalls checked.now (job_of checked.now.entries bytes.now) (a.status, a.text.items)) }
+fn answer_run(alloc: Global, checked: &WholeChecked, bytes: &[u8]) -> Result<Prepared, AllocError>
+    requires { length bytes.now ≤ max_job }
+    ensures { IfOk result (λ a. answers_run checked.now bytes.now (a.status, a.text.items)) }
 {
-    match read_job(alloc, bytes, checked.entries.as_slice()) {
+    let entries = entries(alloc, checked.facts.main.entries.as_slice())?;
+    match read_job(alloc, bytes, entries.as_slice()) {
         Ok(job) => {
             let text = run(alloc, checked, job.calls.as_slice())?;
             Ok(Prepared { status: 0, text })
@@ -94,7 +93,7 @@ fn answer_run(alloc: Global, checked: &Checked, bytes: &[u8]) -> Result<Prepared
 fn answer_solo(alloc: Global, checked: &Checked, bytes: &[u8]) -> Result<Prepared, AllocError>
     requires judged { IsJudged checked.now }
     requires fits { length bytes.now ≤ max_job }
-    ensures { IfOk result (λ a. AnswersSplit checked.now (split_job_of checked.now.entries (lowered checked.now) bytes.now) (a.status, a.text.items)) }
+    ensures { IfOk result (λ a. answers_solo checked.now bytes.now (a.status, a.text.items)) }
 {
     let code = lower(alloc, checked)?;
     match read_split_job(alloc, bytes, checked.entries.as_slice(), &code) {
@@ -107,24 +106,60 @@ fn answer_solo(alloc: Global, checked: &Checked, bytes: &[u8]) -> Result<Prepare
     }
 }
 
-// The answer for a program that is accepted.
-fn answer_job(
+// The answer of `run` for a program that is accepted.
+fn run_job(
     alloc: Global,
-    kind: Kind,
-    checked: &Checked,
+    checked: &WholeChecked,
     job: &Option<Vec<u8>>,
 ) -> Result<Prepared, AllocError>
+    requires { IfSome job.now (λ bytes. length bytes.items ≤ max_job) }
+    ensures { IfOk result (λ a. AnswersJob answers_run checked.now (option_map (λ v. v.items) job.now) (a.status, a.text.items)) }
+{
+    match job {
+        Some(bytes) => answer_run(alloc, checked, bytes.as_slice()),
+        None => job_refused(alloc, 0, b"J2"),
+    }
+}
+
+// The answer of `solo` for a program that is accepted.
+fn solo_job(alloc: Global, checked: &Checked, job: &Option<Vec<u8>>) -> Result<Prepared, AllocError>
     requires judged { IsJudged checked.now }
     requires fits { IfSome job.now (λ bytes. length bytes.items ≤ max_job) }
-    ensures { IfOk result (λ a. AnswersJob kind checked.now (option_map (λ v. v.items) job.now) (a.status, a.text.items)) }
+    ensures { IfOk result (λ a. AnswersJob answers_solo checked.now (option_map (λ v. v.items) job.now) (a.status, a.text.items)) }
 {
-    let bytes = match job {
-        Some(bytes) => bytes.as_slice(),
-        None => return job_refused(alloc, 0, b"J2"),
-    };
-    match kind {
-        Kind::Run => answer_run(alloc, checked, bytes),
-        Kind::Solo => answer_solo(alloc, checked, bytes),
+    match job {
+        Some(bytes) => answer_solo(alloc, checked, bytes.as_slice()),
+        None => job_refused(alloc, 0, b"J2"),
+    }
+}
+
+fn run_answer(
+    alloc: Global,
+    program: &Option<Vec<u8>>,
+    job: &Option<Vec<u8>>,
+) -> Result<Prepared, AllocError>
+    requires program { IfSome program.now (λ bytes. length bytes.items ≤ max_program) }
+    requires job { IfSome job.now (λ bytes. length bytes.items ≤ max_job) }
+    ensures { IfOk result (λ a. IsAnswerBy JudgesWhole answers_run (option_map (λ v. v.items) program.now) (option_map (λ v. v.items) job.now) (a.status, a.text.items)) }
+{
+    match judge_whole(alloc, program)? {
+        Ok(checked) => run_job(alloc, &checked, job),
+        Err(fault) => program_refused(alloc, fault),
+    }
+}
+
+fn solo_answer(
+    alloc: Global,
+    program: &Option<Vec<u8>>,
+    job: &Option<Vec<u8>>,
+) -> Result<Prepared, AllocError>
+    requires program { IfSome program.now (λ bytes. length bytes.items ≤ max_program) }
+    requires job { IfSome job.now (λ bytes. length bytes.items ≤ max_job) }
+    ensures { IfOk result (λ a. IsAnswerBy Judges answers_solo (option_map (λ v. v.items) program.now) (option_map (λ v. v.items) job.now) (a.status, a.text.items)) }
+{
+    match judge(alloc, program)? {
+        Ok(checked) => solo_job(alloc, &checked, job),
+        Err(fault) => program_refused(alloc, fault),
     }
 }
 
@@ -139,9 +174,9 @@ pub fn answer(
     requires job { IfSome job.now (λ bytes. length bytes.items ≤ max_job) }
     ensures { IfOk result (λ a. IsAnswer kind (option_map (λ v. v.items) program.now) (option_map (λ v. v.items) job.now) (a.status, a.text.items)) }
 {
-    match judge(alloc, program)? {
-        Ok(checked) => answer_job(alloc, kind, &checked, job),
-        Err(fault) => program_refused(alloc, fault),
+    match kind {
+        Kind::Run => run_answer(alloc, program, job),
+        Kind::Solo => solo_answer(alloc, program, job),
     }
 }
 
@@ -151,10 +186,10 @@ pub fn check_answer(alloc: Global, program: &Option<Vec<u8>>) -> Result<Prepared
     ensures { IfOk result (λ a. IsChecked (option_map (λ v. v.items) program.now) (a.status, a.text.items)) }
 {
     match judge_whole(alloc, program)? {
-        None => Ok(Prepared {
+        Ok(_) => Ok(Prepared {
             status: 0,
             text: Vec::from_slice(alloc, b"ok\n")?,
         }),
-        Some(fault) => program_refused(alloc, fault),
+        Err(fault) => program_refused(alloc, fault),
     }
 }

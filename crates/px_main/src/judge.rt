@@ -1,17 +1,17 @@
-//! What comes of a program file.
+//! What comes of a program file that is served by two ends.
 ghost use Rattle.std.specs.Prelude.{◌≡◌, ◌≤◌, length, IfSome, IfOk};
 ghost use Rattle.std.specs.Option.{option_map};
 ghost use Rattle.px_lower.specs.WellFormed.{IsJudged};
 ghost use Rattle.px_main.specs.Answers.{IsParsed, IsRuled, Judges, max_program};
 
 use crate::fault::{Fault, ProgramCode};
-use crate::whole::first_fault;
+use crate::whole::find;
 use px_lex::first_unbuilt;
 use px_parse::{ParseError, parse};
 use px_types::{CheckError, Checked, check};
 use std::alloc::{AllocError, Global};
 
-// What the checker of today's language makes of a text.
+// What the checker of the small language makes of a text.
 fn parsed_program(alloc: Global, bytes: &[u8]) -> Result<Result<Checked, Fault>, AllocError>
     requires { length bytes.now ≤ max_program }
     ensures judged { IfOk result (λ judged. IsParsed bytes.now judged) }
@@ -39,9 +39,9 @@ fn ruled_program(alloc: Global, bytes: &[u8]) -> Result<Result<Checked, Fault>, 
     ensures judged { IfOk result (λ judged. IsRuled bytes.now judged) }
     ensures keeps { IfOk result (λ judged. IfOk judged IsJudged) }
 {
-    match first_fault(alloc, bytes)? {
-        Some(fault) => Ok(Err(fault)),
-        None => parsed_program(alloc, bytes),
+    match find(alloc, bytes)? {
+        Err(fault) => Ok(Err(fault)),
+        Ok(_) => parsed_program(alloc, bytes),
     }
 }
 

@@ -1,4 +1,4 @@
-//! The serial run of a job, from the tree.
+//! The serial run of a job of the small language, from the tree.
 ghost use Rattle.std.specs.Prelude.{◌≡◌, ◌≤◌, length, map, replicate, slice_get, IfOk};
 ghost use Rattle.px_mean.specs.Serial.{first_heap as mean_first_heap, first_session};
 ghost use Rattle.px_mean.specs.Program.{field_types};
@@ -6,7 +6,7 @@ ghost use Rattle.px_plain.specs.View.{all_now};
 ghost use Rattle.px_plain.specs.Serial.{wanted as plain_wanted, left};
 ghost use Rattle.px_types.specs.Programs.{max_fields};
 ghost use Rattle.px_lower.specs.WellFormed.{IsJudged};
-ghost use Rattle.px_main.specs.Run.{wanted, method_at, run_of};
+ghost use Rattle.px_main.specs.Solo.{wanted, method_at, serial_of};
 
 use crate::members::{first_cells, members, methods};
 use px_lex::tree::{Class, Member};
@@ -94,7 +94,7 @@ pub fn run_serial(
     calls: &[px_job::Call],
 ) -> Result<Served, AllocError>
     requires { IsJudged checked.now }
-    ensures { IfOk result (λ served. run_of checked.now calls.now ≡ left served.made.items served.sessions.items) }
+    ensures { IfOk result (λ served. serial_of checked.now calls.now ≡ left served.made.items served.sessions.items) }
 {
     let members = members(alloc, checked.program.classes.as_slice())?;
     let methods = methods(alloc, members.as_slice())?;

@@ -7,15 +7,17 @@ ghost use Rattle.px_lower.specs.Programs.{lowered};
 ghost use Rattle.px_lower.specs.WellFormed.{IsJudged};
 ghost use Rattle.px_job.specs.Fitting.{IsFitting};
 ghost use Rattle.px_session.specs.Wanted.{wanted};
-ghost use Rattle.px_main.specs.Solo.{asked, history_of, IsPlanOf, AreDone, IsReport};
+ghost use Rattle.px_main.specs.Solo.{asked, heap_of, history_of, IsPlanOf, AreDone, IsReport};
 
 use crate::serial::{class_names, method_of, run_serial};
 use px_code::{Code, Done, Event, Placement, Plans};
 use px_compile::compile;
 use px_job::{Call, Part, SplitJob};
+use px_mean::Session;
 use px_report::report_text;
 use px_session::{Wanted, serve};
 use px_types::{Checked, Entry};
+use px_value::Heap;
 use std::alloc::{AllocError, Global};
 use std::sync::Arc;
 
@@ -85,6 +87,16 @@ fn history(alloc: Global, dones: Vec<Done>) -> Result<Vec<Event>, AllocError>
     Ok(events)
 }
 
+fn heaps(alloc: Global, sessions: Vec<Session>) -> Result<Vec<Heap>, AllocError>
+    ensures { IfOk result (λ heaps. heaps.items ≡ map heap_of sessions.items) }
+{
+    let mut heaps = Vec::new(alloc);
+    for session in sessions {
+        heaps.push(session.heap)?;
+    }
+    Ok(heaps)
+}
+
 /// The report of the calls of a job, served by two ends under the job's part.
 pub fn solo(
     alloc: Global,
@@ -104,11 +116,12 @@ pub fn solo(
     let events = history(alloc, dones)?;
     let served = run_serial(alloc, checked, calls.as_slice())?;
     let classes = class_names(alloc, checked.program.classes.as_slice())?;
+    let heaps = heaps(alloc, served.sessions)?;
     report_text(
         alloc,
         classes.as_slice(),
         &[name],
         events.as_slice(),
-        served.sessions.as_slice(),
+        heaps.as_slice(),
     )
 }

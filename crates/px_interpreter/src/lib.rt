@@ -1,0 +1,6 @@
+//! The run of a program of the whole language, from its tree.
+#![tactic(auto)]
+
+mod serial;
+
+pub use serial::{Call, Ran, serve};

@@ -1,0 +1,39 @@
+//! The serial run.
+ghost use Rattle.std.specs.Prelude.{◌≡◌, map, IfOk};
+ghost use Rattle.px_interpreter.specs.Serial.{told_call, serial_of, ran_of};
+
+use px_code::Shown;
+use px_facts::Checked;
+use px_value::{Heap, Value};
+use std::alloc::{AllocError, Global};
+
+/// A call of an entry.
+#[derive(Clone, Copy)]
+pub struct Call<'a> {
+    /// Its session, from 1.
+    pub session: u16,
+    /// The place of its entry, from 0.
+    pub entry: usize,
+    pub args: &'a [Value],
+}
+
+/// What calls leave.
+#[derive(Drop)]
+pub struct Ran {
+    /// What each call shows.
+    pub shown: Vec<Shown>,
+    /// The heaps of the sessions.
+    pub heaps: Vec<Heap>,
+}
+
+/// The calls one after the other, by so many sessions as new.
+pub fn serve(
+    _alloc: Global,
+    checked: &Checked,
+    sessions: u16,
+    calls: &[Call<'_>],
+) -> Result<Ran, AllocError>
+    ensures { IfOk result (λ ran. serial_of checked.now sessions (map told_call calls.now) ≡ ran_of ran.shown.items ran.heaps.items) }
+{
+    Err(AllocError)
+}

@@ -1,0 +1,9 @@
+pub mod Run
+pub mod Facts
+pub mod Effects
+pub mod Expressions
+pub mod Statements
+pub mod Calls
+pub mod Entry
+pub mod Serial
+pub mod Program
