@@ -1,3 +1,5 @@
+mod limits;
+
 use crate::{Breach, CheckError, check, first_breach};
 use px_facts::{Checked, Element, Fact, Named, Ty};
 use px_tree::{
