@@ -1,16 +1,37 @@
 -- What the answers of `whole` cite.
-use Rattle.std.proofs.Common.{◌≡◌, ℕ, List, Option, Some, None, sym, ap, ◌∙◌}
-use Rattle.px_lex.specs.declared.token.Token.{Token}
+use Rattle.std.proofs.Common.{◌≡◌, ℕ, List, Option, Some, None, Ok, Err, sym, ap, ◌∙◌}
+use Rattle.std.specs.Option.{option_map}
 use Rattle.px_tree.specs.declared.Program.{Program}
-use Rattle.px_grammar.specs.Places.{line_at}
+use Rattle.px_facts.specs.declared.checked.Checked.{Checked}
 use Rattle.px_rules.specs.declared.breach.Breach.{Breach}
+use Rattle.px_rules.specs.declared.error.CheckError.{CheckError}
+use Rattle.px_rules.specs.declared.error.CheckError.TheVariants.{TypeFault}
 use Rattle.px_rules.specs.Programs.{first_breach_of}
+use Rattle.px_rules.specs.Checked as rules
 use Rattle.px_main.specs.declared.fault.ProgramCode.TheVariants.{Rule}
-use Rattle.px_main.specs.Whole.{fault_at, breach_fault}
+use Rattle.px_main.specs.Whole.{Found, fault_at, by_breach}
 
-pub breach_found : (p : Program) (b : Breach) (first : Option Breach) (tokens : List Token) (line : ℕ) → first ≡ first_breach_of p → first ≡ Some b → tokens ≡ p.tokens → line ≡ line_at tokens b.token → Some (fault_at line (Rule b.code)) ≡ breach_fault p (first_breach_of p)
-breach_found p b first tokens line is some tokens_are at =
-    ap (λ (n : ℕ). Some (fault_at n (Rule b.code))) (at ∙ ap (λ (ts : List Token). line_at ts b.token) tokens_are) ∙ ap (breach_fault p) (sym some ∙ is)
+checked_by : (p : Program) (c : Checked) (first : Option Breach) → c ≡ rules.checked_of p → option_map (rules.fault_at p.tokens) first ≡ None → Ok c ≡ by_breach p first
+checked_by p c None is none = ap (λ (x : Checked). Ok x) is
+checked_by p c (Some b) is none = cc
 
-pub no_breach : (p : Program) (first : Option Breach) → first ≡ first_breach_of p → first ≡ None → None ≡ breach_fault p (first_breach_of p)
-no_breach p first is none = ap (breach_fault p) (sym none ∙ is)
+pub checked_found : (p : Program) (c : Checked) → c ≡ rules.checked_of p → rules.fault_of p ≡ None → Ok c ≡ by_breach p (first_breach_of p)
+checked_found p c is none = checked_by p c (first_breach_of p) is none
+
+line_of : Option CheckError → ℕ
+line_of (Some (TypeFault line code)) = line
+line_of _ = 0
+
+code_of : Option CheckError → ℕ
+code_of (Some (TypeFault line code)) = code
+code_of _ = 0
+
+fault_by : (p : Program) (line code : ℕ) (first : Option Breach) → option_map (rules.fault_at p.tokens) first ≡ Some (TypeFault line code) → Err (fault_at line (Rule code)) ≡ by_breach p first
+fault_by p line code None is = cc
+fault_by p line code (Some b) is =
+    let lines = ap line_of is in
+    let codes = ap code_of is in
+    sym (λ i. Err (fault_at (lines i) (Rule (codes i))))
+
+pub fault_found : (p : Program) (line code : ℕ) → rules.fault_of p ≡ Some (TypeFault line code) → Err (fault_at line (Rule code)) ≡ by_breach p (first_breach_of p)
+fault_found p line code is = fault_by p line code (first_breach_of p) is

@@ -7,3 +7,4 @@ pub mod BySource
 pub mod Planned
 pub mod Reported
 pub mod Faults
+pub mod Ran

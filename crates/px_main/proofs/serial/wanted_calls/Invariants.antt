@@ -1,6 +1,6 @@
 use Rattle.std.proofs.Common.{◌≡◌, ◌++◌, map, drop}
 use Rattle.px_plain.specs.Serial.{wanted as plain_wanted}
-use Rattle.px_main.specs.Run.{wanted}
+use Rattle.px_main.specs.Solo.{wanted}
 use Rattle.px_main.proofs.serial.wanted_calls.Given as goal
 
 abbrev pub invariant-loop-call : goal.invariant-loop-call
