@@ -1,7 +1,8 @@
-//! The serial run.
+//! The serial run of calls.
 ghost use Rattle.std.specs.Prelude.{◌≡◌, map, IfOk};
 ghost use Rattle.px_interpreter.specs.Serial.{told_call, serial_of, ran_of};
 
+use crate::plain::Plain;
 use px_code::Shown;
 use px_facts::Checked;
 use px_value::{Heap, Value};
@@ -28,12 +29,20 @@ pub struct Ran {
 
 /// The calls one after the other, by so many sessions as new.
 pub fn serve(
-    _alloc: Global,
+    alloc: Global,
     checked: &Checked,
     sessions: u16,
     calls: &[Call<'_>],
 ) -> Result<Ran, AllocError>
     ensures { IfOk result (λ ran. serial_of checked.now sessions (map told_call calls.now) ≡ ran_of ran.shown.items ran.heaps.items) }
 {
-    Err(AllocError)
+    let mut plain = Plain::new(alloc, checked, sessions)?;
+    let mut shown = Vec::new(alloc);
+    for call in calls {
+        shown.push(plain.call(call.session, call.entry, call.args)?)?;
+    }
+    Ok(Ran {
+        shown,
+        heaps: plain.heaps,
+    })
 }

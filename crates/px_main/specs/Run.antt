@@ -7,7 +7,7 @@ use Rattle.px_tree.specs.declared.Class.{Class}
 use Rattle.px_facts.specs.declared.checked.Checked.{Checked}
 use Rattle.px_facts.specs.declared.checked.Entry.{Entry as EntryFact}
 use Rattle.px_types.specs.declared.checked.Entry.{Entry}
-use Rattle.px_semantics.specs.Program.{source_of}
+use Rattle.px_semantics.specs.Program.{source_from}
 use Rattle.px_semantics.specs.Serial.{Call, Stand, serial}
 use Rattle.px_job.specs.declared.job.Call.{Call as JobCall}
 use Rattle.px_report.specs.declared.calls.ShownCall.{ShownCall}
@@ -31,7 +31,7 @@ Ran = List Shown × Stand (Unit {0})
 
 -- the calls in the order of the file, by the one session that there is; nothing outside the program is asked
 abbrev pub run_of : Checked → List JobCall → Ran
-run_of c calls = serial (source_of c) 1 tt (map wanted calls)
+run_of c calls = serial (source_from c) 1 tt (map wanted calls)
 
 -- ---- the text
 

@@ -4,6 +4,6 @@ pub mod Effects
 pub mod Expressions
 pub mod Statements
 pub mod Calls
+pub mod Program
 pub mod Entry
 pub mod Serial
-pub mod Program

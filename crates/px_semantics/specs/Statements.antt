@@ -37,7 +37,7 @@ write_local _ v = pure tt
 
 -- the value that a local has, then the other operand, then the local has what the operator gives (JLS 15.26.2, 15.14.2)
 abbrev pub change_local : {Q W : Type 0} → Named → Op → Here Q W Value → Here Q W (Unit {0})
-change_local (named.Local slot) o r = slot_value slot >>= (λ a. r >>= (λ b. came_to (apply o a b)) >>= assign_slot slot)
+change_local (named.Local slot) o r = slot_value slot >>= (λ a. r >>= (λ b. came_to (apply o a b) >>= assign_slot slot))
 change_local _ o r = pure tt
 
 abbrev pub one : Ty → Value

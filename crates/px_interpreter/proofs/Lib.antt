@@ -1,0 +1,10 @@
+pub mod Digits
+pub mod Rooms
+pub mod Undoes
+pub mod Steps
+pub mod Runs
+pub mod Loops
+pub mod Does
+pub mod Frames
+pub mod Serials
+pub mod Served

@@ -1,0 +1,56 @@
+-- A loop, turn by turn.
+use Rattle.std.proofs.Common.{◌≡◌, ℕ, zero, suc, ◌+◌, ◌≤◌, ◌<◌, Bool, true, false, Option, option_map, if◌then◌else◌, refl, sym, ap, ◌∙◌, arith}
+use Rattle.px_value.specs.declared.value.Value.{Value}
+use Rattle.px_value.specs.declared.thrown.Thrown.TheVariants.{TurnsOut}
+use Rattle.px_value.specs.Outcome.{Outcome, Gives, Throws, Asks, Run, then_run, ◌>>=◌, pure, throw, on_shared, Flow, Goes, goes_on}
+use Rattle.px_semantics.specs.Run.{turn, max_turns}
+use Rattle.px_semantics.specs.Expressions.{is_true}
+use Rattle.px_semantics.specs.Statements.{loop, or_goes}
+use Rattle.px_tree.specs.declared.Expr.{Expr}
+use Rattle.px_tree.specs.declared.Stmt.{Stmt}
+use Rattle.px_interpreter.specs.declared.around.Around.{Around}
+use Rattle.px_interpreter.specs.View.{Here, Ending, says, does}
+use Rattle.px_interpreter.specs.Parts.{Part, holds, chosen}
+
+in_turn : {A B C : Type 0} (o : Ending Here A) (f : A → Run ⊥ Here B) (g : B → Run ⊥ Here C) → then_run (then_run o f) g ≡ then_run o (λ a s. then_run (f a s) g)
+in_turn (Gives a s) f g = refl
+in_turn (Throws t s) f g = refl
+in_turn (Asks q) f g = refl
+
+alike : {A B : Type 0} (o : Ending Here A) (f g : A → Run ⊥ Here B) → ((a : A) (s : Here) → f a s ≡ g a s) → then_run o f ≡ then_run o g
+alike (Gives a s) f g h = h a s
+alike (Throws t s) f g h = refl
+alike (Asks q) f g h = refl
+
+-- what follows a test that was counted
+abbrev pub again : Part Value → Part (Flow Value) → ℕ → Bool → Part (Flow Value)
+again test body zero b = throw TurnsOut
+again test body (suc n) b = if b then body >>= goes_on (loop test body n) else pure Goes
+
+abbrev counted : Part Value → Part Bool
+counted test = test >>= (λ v. on_shared turn >>= (λ _. pure (is_true v)))
+
+as_counted : (test : Part Value) (s : Here) (f : Bool → Part (Flow Value)) → then_run (test s) (λ v. on_shared turn >>= (λ _. f (is_true v))) ≡ then_run (counted test s) f
+as_counted test s f = sym (in_turn (test s) (λ v. on_shared turn >>= (λ _. pure (is_true v))) f ∙ alike (test s) _ _ (λ v t. in_turn (on_shared turn t) (λ _. pure (is_true v)) f))
+
+pub loop_is : (test : Part Value) (body : Part (Flow Value)) (n : ℕ) (s : Here) → loop test body n s ≡ then_run (counted test s) (again test body n)
+unfolding loop
+loop_is test body zero s = as_counted test s (again test body zero)
+loop_is test body (suc n) s = as_counted test s (again test body (suc n))
+
+-- a turn more is left
+pub has_more : (n old new : ℕ) → max_turns + 1 ≤ n + old → old < new → new ≤ max_turns → (k : ℕ) × (n ≡ suc k) × (max_turns + 1 ≤ k + new)
+has_more zero old new h more most = absurd (omega (arith, h, more, most))
+has_more (suc k) old new h more most = (k, refl, omega (arith, h, more))
+
+pub again_false : (test : Part Value) (body : Part (Flow Value)) (n k : ℕ) (b : Bool) (s : Here) → n ≡ suc k → b ≡ false → again test body n b s ≡ Gives Goes s
+again_false test body n k b s e f = (λ i. again test body (e i) (f i) s)
+
+pub again_true : (test : Part Value) (body : Part (Flow Value)) (n k : ℕ) (b : Bool) (s : Here) → n ≡ suc k → b ≡ true → again test body n b s ≡ then_run (body s) (goes_on (loop test body k))
+again_true test body n k b s e f = (λ i. again test body (e i) (f i) s)
+
+-- ---- branches
+
+-- an `if` goes on with the truth of its condition
+pub chosen_is : (a : Around) (test : Expr) (branch : Stmt) (other : Option Stmt) (s : Here) → chosen a test branch other s ≡ then_run (holds a test s) (λ b. if b then does a branch else or_goes (option_map (does a) other))
+chosen_is a test branch other s = sym (in_turn ((says a test).run s) (λ v. pure (is_true v)) (λ b. if b then does a branch else or_goes (option_map (does a) other)))

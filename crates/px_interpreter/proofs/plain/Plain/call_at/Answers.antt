@@ -1,0 +1,21 @@
+use Rattle.std.proofs.Common.{◌≡◌, ap, sym, ◌∙◌, List, length, slice_get, Some, arith}
+use Rattle.std.proofs.lemmas.Option.{slice_get_read}
+use Rattle.std.specs.Borrow.{Bor}
+use Rattle.px_value.specs.declared.object.Object.{Object}
+use Rattle.px_tree.specs.declared.Method.{Method}
+use Rattle.px_semantics.specs.Entry.{call_of}
+use Rattle.px_interpreter.specs.Plain.{source_with}
+use Rattle.px_interpreter.proofs.Serials.{set_set}
+use Rattle.px_interpreter.proofs.plain.Plain.call_at.Goals as goal
+
+pub returns-clause-calls : goal.returns-clause-calls
+returns-clause-calls c =
+    let heaps = c.args.self.now.heaps.items in
+    record {
+      before = c.replace-heap.result;
+      there = slice_get_read heaps _ c.args.place c.index_mut.result.now c.args.self.now.heaps.ok.0 (omega (arith, c.requires, c.args.self.now.heaps.ok.0)) c.index_mut.ensures.value
+          ∙ ap Some (sym c.replace-heap.ensures.value);
+      left = c.in_ok-called.called.heap;
+      called = ap (λ (methods : List (Bor Method)). call_of {W = Unit {0}} (source_with c.args.self.now.facts.now methods) c.replace-heap.result tt c.args.entry c.args.args.now) (sym c.as_slice.ensures.value) ∙ c.in_ok-called.ensures;
+      written = set_set heaps c.args.place _ c.in_ok-called.called.heap;
+    }

@@ -1,0 +1,253 @@
+//! Entry calls, one at a time, each on the heap of its session.
+ghost use Rattle.std.specs.Prelude.{◌≡◌, ◌<◌, ◌++◌, ◌∷◌, length, replicate, [], IfOk, OnOk};
+ghost use Rattle.std.specs.Option.{option_copied};
+ghost use Rattle.px_value.specs.declared.value.Value.TheVariants.{Ref};
+ghost use Rattle.px_semantics.specs.Facts as mean_facts;
+ghost use Rattle.px_semantics.specs.Entry.{exec, ended, call_of, first_heap as mean_first_heap, reply_of as mean_reply_of};
+ghost use Rattle.px_semantics.specs.Program.{methods_in as mean_methods_in, methods_of as mean_methods_of, source_from};
+ghost use Rattle.px_semantics.specs.Serial.{one_call};
+ghost use Rattle.px_interpreter.specs.View.{all_now};
+ghost use Rattle.px_interpreter.specs.Plain.{source_with, source_in, stand_of, call_with, left_by, CallsAt};
+
+use crate::around::Around;
+use crate::calls::enter;
+use crate::effects::defaults;
+use crate::facts::fields_of;
+use crate::machine::Machine;
+use crate::prints::Prints;
+use crate::stop::Stop;
+use crate::store::Store;
+use px_code::{Reply, Shown};
+use px_facts::{Checked, Facts, Ty};
+use px_tree::{Class, Member, Method};
+use px_value::{Header, Heap, Kind, Value, Values};
+use sqlite_items::{Items, at};
+use std::alloc::{AllocError, Global};
+use std::mem;
+
+const MAX_FRAMES: u32 = 200;
+
+/// The heaps of the sessions of a program.
+#[derive(Drop)]
+pub struct Plain<'a> {
+    pub alloc: Global,
+    pub facts: &'a Facts,
+    pub methods: Vec<&'a Method>,
+    /// In order from session 1.
+    pub heaps: Vec<Heap>,
+}
+
+/// What a call leaves.
+#[derive(Drop)]
+pub struct Called {
+    pub shown: Shown,
+    pub heap: Heap,
+}
+
+fn push_methods<'a>(methods: &mut Vec<&'a Method>, members: &'a [Member]) -> Result<(), AllocError>
+    ensures { OnOk result (all_now methods.new.items ≡ all_now methods.old.items ++ mean_methods_in members.now) }
+{
+    for member in members {
+        match member {
+            Member::Field(_) => {}
+            Member::Method(method) => methods.push(method)?,
+        }
+    }
+    Ok(())
+}
+
+fn methods_of(alloc: Global, classes: &[Class]) -> Result<Vec<&Method>, AllocError>
+    ensures { IfOk result (λ methods. all_now methods.items ≡ mean_methods_of classes.now) }
+{
+    let mut methods = Vec::new(alloc);
+    for class in classes {
+        push_methods(&mut methods, class.members.as_slice())?;
+    }
+    Ok(methods)
+}
+
+// A session's first heap.
+fn first_heap(alloc: Global, facts: &Facts) -> Result<Heap, AllocError>
+    ensures { IfOk result (λ heap. heap ≡ mean_first_heap facts.now) }
+{
+    let mut heap = Heap::new(alloc);
+    let class = facts.main.class;
+    let cells = defaults(alloc, fields_of(facts, class))?;
+    let Ok(length) = u32::try_from(cells.len()) else {
+        return Err(AllocError);
+    };
+    let header = Header {
+        kind: Kind::Object(class),
+        site: 0,
+        length,
+    };
+    match heap.add(header, cells) {
+        Ok(_) => Ok(heap),
+        Err(_) => Err(AllocError),
+    }
+}
+
+fn first_heaps(alloc: Global, facts: &Facts, sessions: u16) -> Result<Vec<Heap>, AllocError>
+    ensures { IfOk result (λ heaps. heaps.items ≡ replicate sessions (mean_first_heap facts.now)) }
+{
+    let mut heaps = Vec::new(alloc);
+    for _ in 0..sessions {
+        heaps.push(first_heap(alloc, facts)?)?;
+    }
+    Ok(heaps)
+}
+
+fn reply_of(given: Option<Value>) -> Reply
+    ensures { result ≡ mean_reply_of given }
+{
+    match given {
+        None => Reply::Void,
+        Some(value) => Reply::Value(value),
+    }
+}
+
+// Object 0 is the receiver.
+fn values_of(alloc: Global, args: &[Value]) -> Result<Values, AllocError>
+    ensures { IfOk result (λ values. values ≡ Ref 0 ∷ args.now) }
+{
+    let mut values = Values::new(alloc);
+    values.push(Value::Ref(0))?;
+    for arg in args {
+        values.push(arg.copy(alloc)?)?;
+    }
+    Ok(values)
+}
+
+fn shown_nothing(alloc: Global) -> Shown
+    ensures { result ≡ record { reply = Reply.Void; prints = [] } }
+{
+    Shown {
+        reply: Reply::Void,
+        prints: Items::new(alloc),
+    }
+}
+
+// A call of a method on a heap.
+#[tactic(auto, unfolding(px_semantics::specs::Entry::all_frames))]
+fn call_on(
+    alloc: Global,
+    facts: &Facts,
+    methods: &[&Method],
+    heap: Heap,
+    method: u16,
+    args: &[Value],
+) -> Result<Called, AllocError>
+    ensures { IfOk result (λ c. ended heap tt (exec (source_with facts.now methods.now) heap tt method args.now) ≡ left_by c) }
+{
+    let values = values_of(alloc, args)?;
+    let around = Around {
+        alloc,
+        facts,
+        methods,
+        result: Ty::Void,
+        left: MAX_FRAMES,
+    };
+    let mut m = Machine {
+        store: Store::new(alloc, heap),
+        prints: Prints::new(alloc),
+        turns: 0,
+    };
+    match enter(&around, &mut m, method, values) {
+        Ok(given) => Ok(Called {
+            shown: Shown {
+                reply: reply_of(given),
+                prints: Items::from_vec(m.prints.into_lines()),
+            },
+            heap: m.store.into_heap(),
+        }),
+        Err(Stop::Threw(thrown)) => Ok(Called {
+            shown: Shown {
+                reply: Reply::Threw(thrown),
+                prints: Items::new(alloc),
+            },
+            heap: m.store.into_old_heap(),
+        }),
+        Err(Stop::NoMemory) => Err(AllocError),
+    }
+}
+
+// A call of an entry, by its place, on a heap.
+#[tactic(auto, unfolding(px_semantics::specs::Entry::call_of))]
+fn call_entry(
+    alloc: Global,
+    facts: &Facts,
+    methods: &[&Method],
+    heap: Heap,
+    entry: usize,
+    args: &[Value],
+) -> Result<Called, AllocError>
+    ensures { IfOk result (λ c. call_of (source_with facts.now methods.now) heap tt entry args.now ≡ left_by c) }
+{
+    match at(facts.main.entries.as_slice(), entry) {
+        Some(entry) => call_on(alloc, facts, methods, heap, entry.method, args),
+        None => Ok(Called {
+            shown: shown_nothing(alloc),
+            heap,
+        }),
+    }
+}
+
+impl<'a> Plain<'a> {
+    pub fn new(alloc: Global, checked: &'a Checked, sessions: u16) -> Result<Plain<'a>, AllocError>
+        ensures source { IfOk result (λ p. source_in p ≡ source_from checked.now) }
+        ensures heaps { IfOk result (λ p. p.heaps.items ≡ replicate sessions (mean_first_heap checked.now.facts)) }
+    {
+        let methods = methods_of(alloc, checked.program.classes.as_slice())?;
+        let heaps = first_heaps(alloc, &checked.facts, sessions)?;
+        Ok(Plain {
+            alloc,
+            facts: &checked.facts,
+            methods,
+            heaps,
+        })
+    }
+
+    fn call_at(&mut self, place: usize, entry: usize, args: &[Value]) -> Result<Shown, AllocError>
+        requires { place < length self.old.heaps.items }
+        ensures calls { IfOk result (λ shown. CallsAt (source_in self.old) self.old.heaps.items place entry args.now shown self.new.heaps.items) }
+        ensures source { source_in self.new ≡ source_in self.old }
+    {
+        let heap = mem::replace(&mut self.heaps[place], Heap::new(self.alloc));
+        let called = call_entry(
+            self.alloc,
+            self.facts,
+            self.methods.as_slice(),
+            heap,
+            entry,
+            args,
+        )?;
+        self.heaps[place] = called.heap;
+        Ok(called.shown)
+    }
+
+    /// A call of an entry, by its place, by a session from 1. What isn't there does nothing.
+    pub fn call(&mut self, session: u16, entry: usize, args: &[Value]) -> Result<Shown, AllocError>
+        ensures call { IfOk result (λ shown. one_call (source_in self.old) (call_with session entry args.now) (stand_of self.old.heaps.items) ≡ (shown, stand_of self.new.heaps.items)) }
+        ensures source { source_in self.new ≡ source_in self.old }
+    {
+        let number = usize::from(session);
+        if number == 0 {
+            return Ok(shown_nothing(self.alloc));
+        }
+        if number > self.heaps.len() {
+            return Ok(shown_nothing(self.alloc));
+        }
+        self.call_at(number - 1, entry, args)
+    }
+
+    /// The heap of a session from 1.
+    pub fn heap(&self, session: u16) -> Option<&Heap>
+        ensures { option_copied result ≡ mean_facts.by_number self.now.heaps.items session }
+    {
+        let number = usize::from(session);
+        if number == 0 {
+            return None;
+        }
+        at(self.heaps.as_slice(), number - 1)
+    }
+}
