@@ -1,6 +1,6 @@
 -- The value of a literal, digit by digit in a number of limited bits.
-use Rattle.std.proofs.Common.{◌≡◌, ℕ, suc, ◌+◌, ◌-◌, ◌*◌, ◌%◌, ◌^◌, ◌<◌, List, [], ◌∷◌, drop, get_or, length, refl, sym, ap, ◌∙◌, arith, drop-cons, add-one, pos, w32, w64}
-use Rattle.std.specs.Int.{int_wrap, int_rem_euclid, cast_signed}
+use Rattle.std.proofs.Common.{◌≡◌, ℕ, suc, ◌+◌, ◌-◌, ◌*◌, ◌%◌, ◌^◌, ◌<◌, List, [], ◌∷◌, drop, get_or, length, refl, sym, ap, ◌∙◌, drop-cons, add-one, pos, w32, w64}
+use Rattle.std.specs.Int.{int_wrap, cast_signed}
 use Rattle.std.proofs.Math.Nat.{mod-add-mod, mod-mod, mod-mod_of_dvd, dvd_of_mod-eq-zero}
 use Rattle.std.proofs.lemmas.Nat.{mul-mod_first}
 use Rattle.px_semantics.specs.Expressions.{decimal_value}

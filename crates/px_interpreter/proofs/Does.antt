@@ -1,5 +1,5 @@
 -- What each form of a statement does when it is run.
-use Rattle.std.proofs.Common.{◌≡◌, ℕ, List, map, Option, option_map, unwrap_or, slice_get, refl, sym, ap, ◌∙◌}
+use Rattle.std.proofs.Common.{◌≡◌, ℕ, List, map, Option, option_map, unwrap_or, slice_get, sym, ap, ◌∙◌}
 use Rattle.px_value.specs.declared.value.Value.{Value}
 use Rattle.px_value.specs.declared.value.Value.TheVariants.{Null}
 use Rattle.px_value.specs.declared.op.Op.{Op}
@@ -17,7 +17,7 @@ use Rattle.px_tree.specs.declared.Expr.{Expr}
 use Rattle.px_tree.specs.declared.Stmt.{Stmt}
 use Rattle.px_tree.specs.declared.StmtForm.TheVariants.{Block, Empty, Local, Assign, Compound, Up, Down, Call, If, While, For, Return, Print}
 use Rattle.px_semantics.specs.Facts.{type_at, named_at, op_of}
-use Rattle.px_semantics.specs.Statements.{goes, change_local, one, loop, all_turns, returned}
+use Rattle.px_semantics.specs.Statements.{change_local, one, loop, all_turns, returned}
 use Rattle.px_semantics.proofs.Forms as forms
 use Rattle.px_interpreter.specs.declared.around.Around.{Around}
 use Rattle.px_interpreter.specs.View.{Here, Ending, around_of, says, does}

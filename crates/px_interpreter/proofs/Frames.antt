@@ -13,10 +13,9 @@ use Rattle.px_semantics.specs.Facts.{by_number}
 use Rattle.px_semantics.specs.Expressions.{Around as AroundMeant}
 use Rattle.px_semantics.specs.Statements.{done_by}
 use Rattle.px_semantics.specs.Calls.{Source, calls_in, enters, first_slots, leaves_frame}
-use Rattle.px_interpreter.specs.declared.around.Around.{Around}
 use Rattle.px_interpreter.specs.declared.stop.Stop.{Stop}
 use Rattle.px_interpreter.specs.declared.stop.Stop.TheVariants as stop
-use Rattle.px_interpreter.specs.View.{Here, There, Ending, Stops, Ends, source_of, all_now}
+use Rattle.px_interpreter.specs.View.{Here, There, Ending, Stops, Ends, all_now}
 
 -- ---- methods by their numbers
 

@@ -1,8 +1,8 @@
 -- A loop, turn by turn.
-use Rattle.std.proofs.Common.{◌≡◌, ℕ, zero, suc, ◌+◌, ◌≤◌, ◌<◌, Bool, true, false, Option, option_map, if◌then◌else◌, refl, sym, ap, ◌∙◌, arith}
+use Rattle.std.proofs.Common.{◌≡◌, ℕ, zero, suc, ◌+◌, ◌≤◌, ◌<◌, Bool, true, false, Option, option_map, if◌then◌else◌, refl, sym, ◌∙◌, arith}
 use Rattle.px_value.specs.declared.value.Value.{Value}
 use Rattle.px_value.specs.declared.thrown.Thrown.TheVariants.{TurnsOut}
-use Rattle.px_value.specs.Outcome.{Outcome, Gives, Throws, Asks, Run, then_run, ◌>>=◌, pure, throw, on_shared, Flow, Goes, goes_on}
+use Rattle.px_value.specs.Outcome.{Gives, Throws, Asks, Run, then_run, ◌>>=◌, pure, throw, on_shared, Flow, Goes, goes_on}
 use Rattle.px_semantics.specs.Run.{turn, max_turns}
 use Rattle.px_semantics.specs.Expressions.{is_true}
 use Rattle.px_semantics.specs.Statements.{loop, or_goes}

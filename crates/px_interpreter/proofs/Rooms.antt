@@ -1,9 +1,8 @@
 -- Whether the heap has room for one more object.
-use Rattle.std.proofs.Common.{◌≡◌, ◌<◌, ◌≤◌, ◌+◌, ◌⊎◌, inl, inr, ℕ, nat_lt, Bool, true, false, ◌||◌, if◌then◌else◌, List, length, ◌%◌, replicate, refl, sym, ap, ◌∙◌, arith, w32, pos, ◌++◌, ◌∷◌, []}
+use Rattle.std.proofs.Common.{◌≡◌, ◌<◌, ◌+◌, inl, inr, ℕ, nat_lt, Bool, true, false, ◌||◌, if◌then◌else◌, List, length, ◌%◌, replicate, refl, ap, arith, w32, pos, ◌++◌, ◌∷◌, []}
 use Rattle.std.specs.Int.{int_wrap, cast_signed}
 use Rattle.std.proofs.lemmas.Bool.Decides.{nat_tests}
 use Rattle.std.proofs.lemmas.List.{length-replicate}
-use Rattle.std.proofs.Math.Nat.{mod-mod}
 use Rattle.px_value.specs.declared.value.Value.{Value}
 use Rattle.px_value.specs.declared.value.Value.TheVariants.{Ref}
 use Rattle.px_value.specs.declared.object.Object.{Object}
@@ -12,7 +11,6 @@ use Rattle.px_value.specs.declared.header.Kind.TheVariants as kind
 use Rattle.px_value.specs.declared.thrown.Thrown.TheVariants.{HeapFull}
 use Rattle.px_value.specs.Heap.{HasNoRoom, IsLongArray, heap_counted, max_counted, max_elements}
 use Rattle.px_value.specs.Outcome.{Outcome, Gives, Throws}
-use Rattle.px_semantics.specs.Run.{Shared}
 use Rattle.px_semantics.specs.Effects.{allocate, fresh_object, has_no_room, is_long}
 use Rattle.px_interpreter.specs.View.{There}
 

@@ -1,5 +1,5 @@
 -- What each form does when it is run.
-use Rattle.std.proofs.Common.{◌≡◌, ℕ, Bool, List, map, Option, option_map, refl, sym, ap, ◌∙◌}
+use Rattle.std.proofs.Common.{◌≡◌, ℕ, Bool, List, map, Option, option_map, ap}
 use Rattle.px_value.specs.declared.value.Value.{Value}
 use Rattle.px_value.specs.declared.value.Value.TheVariants.{Null, Bool as Truth, Text}
 use Rattle.px_tree.specs.declared.Sign.{Sign}

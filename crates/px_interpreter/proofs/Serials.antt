@@ -1,5 +1,5 @@
 -- A call by a session of a number.
-use Rattle.std.proofs.Common.{◌≡◌, ℕ, zero, suc, ◌-◌, ◌≤◌, List, [], ◌∷◌, Option, Some, None, slice_get, slice_set, length, refl, sym, ap, ◌∙◌, arith}
+use Rattle.std.proofs.Common.{◌≡◌, ℕ, zero, suc, ◌≤◌, List, [], ◌∷◌, Option, None, slice_set, length, refl, sym, ap, ◌∙◌, arith}
 use Rattle.std.proofs.lemmas.Option.{slice_get_past}
 use Rattle.px_value.specs.declared.value.Value.{Value}
 use Rattle.px_value.specs.declared.object.Object.{Object}
@@ -10,7 +10,6 @@ use Rattle.px_semantics.specs.Calls.{Source}
 use Rattle.px_semantics.specs.Entry.{Called}
 use Rattle.px_semantics.specs.Serial.{Stand, one_call, call_by, shown_of, stand_after}
 use Rattle.px_interpreter.specs.Plain.{CallsAt, call_with, stand_of}
-use Rattle.px_interpreter.proofs.Frames.{by_place}
 
 pub set_set : {A : Type 0} (xs : List A) (i : ℕ) (x y : A) → slice_set (slice_set xs i x) i y ≡ slice_set xs i y
 set_set [] i x y = refl

@@ -1,15 +1,15 @@
 -- One run after another.
-use Rattle.std.proofs.Common.{◌≡◌, List, Result, Ok, Err, refl, sym, ap, ◌∙◌, subst}
+use Rattle.std.proofs.Common.{◌≡◌, List, Result, Ok, Err, sym, ap, subst}
 use Rattle.std.specs.Result.{IsErrAnd}
 use Rattle.px_value.specs.declared.value.Value.{Value}
-use Rattle.px_value.specs.Outcome.{Outcome, Gives, Throws, Run, then_run, on_shared, beside, Flow}
+use Rattle.px_value.specs.Outcome.{Gives, Run, then_run, beside, Flow}
 use Rattle.px_value.specs.Operators.{Applied}
 use Rattle.px_semantics.specs.Run.{came_to}
 use Rattle.px_interpreter.specs.declared.stop.Stop.{Stop}
 use Rattle.px_interpreter.specs.declared.stop.Stop.TheVariants as stop
 use Rattle.px_interpreter.specs.declared.stop.Next.{Next}
 use Rattle.px_interpreter.specs.declared.machine.Machine.{Machine}
-use Rattle.px_interpreter.specs.View.{Here, There, Ending, Stops, Ends, EndsWith, EndsFlow, Came, frame, shared_of}
+use Rattle.px_interpreter.specs.View.{Here, There, Ending, Stops, Ends, EndsFlow, Came, frame, shared_of}
 
 abbrev pub Then : Type 0 → Type 0 → Type 0 → Type 0
 Then S A B = A → Run ⊥ S B

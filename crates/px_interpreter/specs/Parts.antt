@@ -1,7 +1,7 @@
 -- What the parts of statements and expressions do.
 use Rattle.std.specs.Prelude.{ℕ, Bool, List, Option, Some, None, option_map, slice_set, if◌then◌else◌}
 use Rattle.px_value.specs.declared.value.Value.{Value}
-use Rattle.px_value.specs.Outcome.{Flow, then_run, ◌>>=◌, pure, on_shared, goes_on}
+use Rattle.px_value.specs.Outcome.{Flow, ◌>>=◌, pure, on_shared, goes_on}
 use Rattle.px_tree.specs.declared.Expr.{Expr}
 use Rattle.px_tree.specs.declared.Stmt.{Stmt}
 use Rattle.px_facts.specs.declared.checked.Named.{Named}

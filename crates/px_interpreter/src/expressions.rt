@@ -24,6 +24,7 @@ use sqlite_items::Boxed;
 use std::alloc::{AllocError, Global};
 
 /// The value in a slot, or null where there is none.
+#[inline(never)]
 pub fn slot_value(alloc: Global, slots: &Values, slot: u16) -> Result<Value, AllocError>
     ensures { IfOk result (λ v. v ≡ unwrap_or (slice_get slots.now slot) Null) }
 {
@@ -31,6 +32,7 @@ pub fn slot_value(alloc: Global, slots: &Values, slot: u16) -> Result<Value, All
 }
 
 // The value of a bare name.
+#[inline(never)]
 fn name_value(around: &Around, m: &Machine, slots: &Values, name: Named) -> Result<Value, Stop>
     ensures { Ends (frame slots.now m.now) result (expressions.name_value name (frame slots.now m.now)) }
 {
@@ -45,6 +47,7 @@ fn name_value(around: &Around, m: &Machine, slots: &Values, name: Named) -> Resu
 }
 
 // The value of a member of an object.
+#[inline(never)]
 fn member_value(
     around: &Around,
     m: &Machine,
@@ -61,6 +64,7 @@ fn member_value(
     }
 }
 
+#[inline(never)]
 fn made_object(around: &Around, m: &mut Machine, slots: &Values, name: Named) -> Result<Value, Stop>
     ensures ends { Ends (frame slots.now m.new) result (expressions.made_object around.now.facts.now name (frame slots.now m.old)) }
     ensures kept { IfKept result (Keeps m.old m.new) }
@@ -77,6 +81,7 @@ fn made_object(around: &Around, m: &mut Machine, slots: &Values, name: Named) ->
     }
 }
 
+#[inline(never)]
 fn made_array(
     around: &Around,
     m: &mut Machine,
@@ -124,6 +129,7 @@ fn value_or<'a>(values: &'a Values, place: usize, other: &'a Value) -> &'a Value
     }
 }
 
+#[inline(never)]
 fn text_length(alloc: Global, values: &Values) -> Result<Value, Stop>
     ensures { Came result (apply Op.Length (expressions.value_at values.now 0) (expressions.value_at values.now 0)) }
 {
@@ -132,6 +138,7 @@ fn text_length(alloc: Global, values: &Values) -> Result<Value, Stop>
     applied(alloc, Op::Length, of, of)
 }
 
+#[inline(never)]
 fn text_equals(alloc: Global, values: &Values) -> Result<Value, Stop>
     ensures { Came result (apply Op.Equals (expressions.value_at values.now 0) (expressions.value_at values.now 1)) }
 {
@@ -154,6 +161,7 @@ fn wanted_at(wanted: &[Ty], place: usize) -> Ty
 }
 
 // A call of a method of a class, of the receiver and the arguments.
+#[inline(never)]
 fn call_method<F: Fn(&mut Machine, u16, Values) -> Result<Option<Value>, Stop>>(
     around: &Around,
     run: &F,
@@ -173,6 +181,7 @@ fn call_method<F: Fn(&mut Machine, u16, Values) -> Result<Option<Value>, Stop>>(
 }
 
 // A method of a class, or of String.
+#[inline(never)]
 fn invoke<F: Fn(&mut Machine, u16, Values) -> Result<Option<Value>, Stop>>(
     around: &Around,
     run: &F,
@@ -260,6 +269,7 @@ pub fn eval<F: Fn(&mut Machine, u16, Values) -> Result<Option<Value>, Stop>>(
 }
 
 #[cycle(eval)]
+#[inline(never)]
 fn field<F: Fn(&mut Machine, u16, Values) -> Result<Option<Value>, Stop>>(
     around: &Around,
     run: &F,
@@ -279,6 +289,7 @@ fn field<F: Fn(&mut Machine, u16, Values) -> Result<Option<Value>, Stop>>(
 }
 
 #[cycle(eval)]
+#[inline(never)]
 fn element<F: Fn(&mut Machine, u16, Values) -> Result<Option<Value>, Stop>>(
     around: &Around,
     run: &F,
@@ -299,6 +310,7 @@ fn element<F: Fn(&mut Machine, u16, Values) -> Result<Option<Value>, Stop>>(
 }
 
 #[cycle(eval)]
+#[inline(never)]
 fn array<F: Fn(&mut Machine, u16, Values) -> Result<Option<Value>, Stop>>(
     around: &Around,
     run: &F,
@@ -325,6 +337,7 @@ fn array<F: Fn(&mut Machine, u16, Values) -> Result<Option<Value>, Stop>>(
 }
 
 #[cycle(eval)]
+#[inline(never)]
 fn prefix<F: Fn(&mut Machine, u16, Values) -> Result<Option<Value>, Stop>>(
     around: &Around,
     run: &F,
@@ -345,6 +358,7 @@ fn prefix<F: Fn(&mut Machine, u16, Values) -> Result<Option<Value>, Stop>>(
 }
 
 #[cycle(eval)]
+#[inline(never)]
 fn binary<F: Fn(&mut Machine, u16, Values) -> Result<Option<Value>, Stop>>(
     around: &Around,
     run: &F,
@@ -373,6 +387,7 @@ fn binary<F: Fn(&mut Machine, u16, Values) -> Result<Option<Value>, Stop>>(
 }
 
 #[cycle(eval)]
+#[inline(never)]
 fn receiver<F: Fn(&mut Machine, u16, Values) -> Result<Option<Value>, Stop>>(
     around: &Around,
     run: &F,
@@ -414,6 +429,7 @@ pub fn fitted<F: Fn(&mut Machine, u16, Values) -> Result<Option<Value>, Stop>>(
 
 // The arguments, behind the values that are there.
 #[cycle(eval)]
+#[inline(never)]
 fn arguments<F: Fn(&mut Machine, u16, Values) -> Result<Option<Value>, Stop>>(
     around: &Around,
     run: &F,
@@ -440,6 +456,7 @@ fn arguments<F: Fn(&mut Machine, u16, Values) -> Result<Option<Value>, Stop>>(
 
 // A call on an object.
 #[cycle(eval)]
+#[inline(never)]
 fn call<F: Fn(&mut Machine, u16, Values) -> Result<Option<Value>, Stop>>(
     around: &Around,
     run: &F,

@@ -22,6 +22,7 @@ pub fn applied(alloc: Global, op: Op, a: &Value, b: &Value) -> Result<Value, Sto
 }
 
 /// A value behind a prefix.
+#[inline(never)]
 pub fn prefixed(alloc: Global, op: Option<Op>, value: Value) -> Result<Value, Stop>
     ensures { Came result (mean_prefixed op value) }
 {
@@ -56,6 +57,7 @@ fn decimal_bits(digits: &[u8]) -> u64
 }
 
 /// The value of an integer literal.
+#[inline(never)]
 pub fn literal(digits: &[u8], long: bool) -> Value
     ensures { result ≡ mean_literal digits.now long }
 {
@@ -68,6 +70,7 @@ pub fn literal(digits: &[u8], long: bool) -> Value
 }
 
 /// The value of a string literal.
+#[inline(never)]
 pub fn text(alloc: Global, bytes: &[u8]) -> Result<Value, AllocError>
     ensures { IfOk result (λ v. v ≡ TextValue bytes.now) }
 {
@@ -106,6 +109,7 @@ pub fn decides(sign: Sign, left: &Value) -> bool
 }
 
 /// What the values of both operands come to, which have these types.
+#[inline(never)]
 pub fn combined(
     alloc: Global,
     sign: Sign,

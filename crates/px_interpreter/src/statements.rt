@@ -59,6 +59,7 @@ fn put_member(
 }
 
 // A field of `this` is written.
+#[inline(never)]
 fn put_own<F: Fn(&mut Machine, u16, Values) -> Result<Option<Value>, Stop>>(
     around: &Around,
     run: &F,
@@ -80,6 +81,7 @@ fn put_own<F: Fn(&mut Machine, u16, Values) -> Result<Option<Value>, Stop>>(
 }
 
 // What a bare name stands for is written.
+#[inline(never)]
 fn put_name<F: Fn(&mut Machine, u16, Values) -> Result<Option<Value>, Stop>>(
     around: &Around,
     run: &F,
@@ -107,6 +109,7 @@ fn put_name<F: Fn(&mut Machine, u16, Values) -> Result<Option<Value>, Stop>>(
 }
 
 // A field of an object is written.
+#[inline(never)]
 fn put_field<F: Fn(&mut Machine, u16, Values) -> Result<Option<Value>, Stop>>(
     around: &Around,
     run: &F,
@@ -128,6 +131,7 @@ fn put_field<F: Fn(&mut Machine, u16, Values) -> Result<Option<Value>, Stop>>(
 }
 
 // An element of an array is written.
+#[inline(never)]
 fn put_element<F: Fn(&mut Machine, u16, Values) -> Result<Option<Value>, Stop>>(
     around: &Around,
     run: &F,
@@ -150,6 +154,7 @@ fn put_element<F: Fn(&mut Machine, u16, Values) -> Result<Option<Value>, Stop>>(
     m.store_element(&of, &index, value)
 }
 
+#[inline(never)]
 fn assign<F: Fn(&mut Machine, u16, Values) -> Result<Option<Value>, Stop>>(
     around: &Around,
     run: &F,
@@ -185,6 +190,7 @@ fn assign<F: Fn(&mut Machine, u16, Values) -> Result<Option<Value>, Stop>>(
     }
 }
 
+#[inline(never)]
 fn declare<F: Fn(&mut Machine, u16, Values) -> Result<Option<Value>, Stop>>(
     around: &Around,
     run: &F,
@@ -205,6 +211,7 @@ fn declare<F: Fn(&mut Machine, u16, Values) -> Result<Option<Value>, Stop>>(
 }
 
 // A local and another value become the local's.
+#[inline(never)]
 fn compound<F: Fn(&mut Machine, u16, Values) -> Result<Option<Value>, Stop>>(
     around: &Around,
     run: &F,
@@ -238,6 +245,7 @@ fn compound<F: Fn(&mut Machine, u16, Values) -> Result<Option<Value>, Stop>>(
 }
 
 // A local is counted up or down.
+#[inline(never)]
 fn step(around: &Around, m: &Machine, slots: &mut Values, op: Op, id: u32) -> Result<(), Stop>
     ensures { Ends (frame slots.new m.now) result (statements.change_local (mean_named_at around.now.facts.now id) op (pure (statements.one (mean_type_at around.now.facts.now id))) (frame slots.old m.now)) }
 {
@@ -253,6 +261,7 @@ fn step(around: &Around, m: &Machine, slots: &mut Values, op: Op, id: u32) -> Re
     }
 }
 
+#[inline(never)]
 fn print<F: Fn(&mut Machine, u16, Values) -> Result<Option<Value>, Stop>>(
     around: &Around,
     run: &F,
@@ -270,6 +279,7 @@ fn print<F: Fn(&mut Machine, u16, Values) -> Result<Option<Value>, Stop>>(
     m.print_line(around.alloc, &value)
 }
 
+#[inline(never)]
 fn returned<F: Fn(&mut Machine, u16, Values) -> Result<Option<Value>, Stop>>(
     around: &Around,
     run: &F,
@@ -293,6 +303,7 @@ fn returned<F: Fn(&mut Machine, u16, Values) -> Result<Option<Value>, Stop>>(
 }
 
 // The test of a loop, which is counted once it was evaluated.
+#[inline(never)]
 fn tested<F: Fn(&mut Machine, u16, Values) -> Result<Option<Value>, Stop>>(
     around: &Around,
     run: &F,
@@ -314,6 +325,7 @@ fn tested<F: Fn(&mut Machine, u16, Values) -> Result<Option<Value>, Stop>>(
 }
 
 // The condition of an `if`.
+#[inline(never)]
 fn holds<F: Fn(&mut Machine, u16, Values) -> Result<Option<Value>, Stop>>(
     around: &Around,
     run: &F,
@@ -414,6 +426,7 @@ pub fn exec<F: Fn(&mut Machine, u16, Values) -> Result<Option<Value>, Stop>>(
 }
 
 #[cycle(exec)]
+#[inline(never)]
 fn exec_all<F: Fn(&mut Machine, u16, Values) -> Result<Option<Value>, Stop>>(
     around: &Around,
     run: &F,
@@ -437,6 +450,7 @@ fn exec_all<F: Fn(&mut Machine, u16, Values) -> Result<Option<Value>, Stop>>(
 }
 
 #[cycle(exec)]
+#[inline(never)]
 fn exec_else<F: Fn(&mut Machine, u16, Values) -> Result<Option<Value>, Stop>>(
     around: &Around,
     run: &F,
@@ -458,6 +472,7 @@ fn exec_else<F: Fn(&mut Machine, u16, Values) -> Result<Option<Value>, Stop>>(
 
 // The last part of a `for`.
 #[cycle(exec)]
+#[inline(never)]
 fn exec_last<F: Fn(&mut Machine, u16, Values) -> Result<Option<Value>, Stop>>(
     around: &Around,
     run: &F,
@@ -479,6 +494,7 @@ fn exec_last<F: Fn(&mut Machine, u16, Values) -> Result<Option<Value>, Stop>>(
 
 // The body of a loop, and the last part of a `for`.
 #[cycle(exec)]
+#[inline(never)]
 fn exec_round<F: Fn(&mut Machine, u16, Values) -> Result<Option<Value>, Stop>>(
     around: &Around,
     run: &F,
@@ -500,6 +516,7 @@ fn exec_round<F: Fn(&mut Machine, u16, Values) -> Result<Option<Value>, Stop>>(
 }
 
 #[cycle(exec)]
+#[inline(never)]
 fn exec_loop<F: Fn(&mut Machine, u16, Values) -> Result<Option<Value>, Stop>>(
     around: &Around,
     run: &F,
@@ -527,6 +544,7 @@ fn exec_loop<F: Fn(&mut Machine, u16, Values) -> Result<Option<Value>, Stop>>(
 }
 
 #[cycle(exec)]
+#[inline(never)]
 fn exec_for<F: Fn(&mut Machine, u16, Values) -> Result<Option<Value>, Stop>>(
     around: &Around,
     run: &F,

@@ -3,7 +3,7 @@ use Rattle.std.proofs.Common.{◌≡◌, ℕ, Bool, List, map, Option, Some, Non
 use Rattle.px_value.specs.declared.value.Value.{Value}
 use Rattle.px_value.specs.declared.value.Value.TheVariants.{Null, Bool as Truth, Text}
 use Rattle.px_value.specs.declared.op.Op.TheVariants as op
-use Rattle.px_value.specs.Outcome.{Gives, Flow, Goes, ◌>>=◌, pure, on_shared, goes_on, in_order}
+use Rattle.px_value.specs.Outcome.{Gives, Goes, ◌>>=◌, pure, on_shared, goes_on, in_order}
 use Rattle.px_tree.specs.declared.Sign.{Sign}
 use Rattle.px_tree.specs.declared.Base.{Base}
 use Rattle.px_tree.specs.declared.Name.{Name as NameData}
@@ -12,7 +12,7 @@ use Rattle.px_tree.specs.declared.Expr.{Expr, fold-Expr, fold_out-Expr}
 use Rattle.px_tree.specs.declared.ExprForm.{ExprForm, ExprForm-F, out-ExprForm, ind-ExprForm, fold-ExprForm, fold_out-ExprForm, fold-roll-ExprForm, roll-ExprForm, map-ExprForm}
 use Rattle.px_tree.specs.declared.ExprForm.TheVariants.{Number, rolls-Number, Str, rolls-Str, True, rolls-True, False, rolls-False, Null as NullForm, rolls-Null, This, rolls-This, Name, rolls-Name, Group, rolls-Group, Field, rolls-Field, Index, rolls-Index, Call, rolls-Call, NewObject, rolls-NewObject, NewArray, rolls-NewArray, Prefix, rolls-Prefix, Binary, rolls-Binary}
 use Rattle.px_tree.specs.declared.ExprForm.TheOpen.{ExprForm-F as f}
-use Rattle.px_tree.specs.declared.Stmt.{Stmt, fold-Stmt, fold_out-Stmt}
+use Rattle.px_tree.specs.declared.Stmt.{Stmt, fold_out-Stmt}
 use Rattle.px_tree.specs.declared.StmtForm.{StmtForm, StmtForm-F, fold-StmtForm, fold-roll-StmtForm, roll-StmtForm, map-StmtForm}
 use Rattle.px_tree.specs.declared.StmtForm.TheVariants.{Block, rolls-Block, Empty, rolls-Empty, Local, rolls-Local, Assign, rolls-Assign, Compound, rolls-Compound, Up, rolls-Up, Down, rolls-Down, Call as CallStmt, rolls-Call as rolls-CallStmt, If, rolls-If, While, rolls-While, For, rolls-For, Return, rolls-Return, Print, rolls-Print}
 use Rattle.px_tree.specs.declared.StmtForm.TheOpen.{StmtForm-F as g}

@@ -3,7 +3,6 @@ use Rattle.std.specs.Prelude.{ℕ, zero, suc, List, map, ◌++◌, length, drop,
 use Rattle.px_value.specs.declared.value.Value.{Value}
 use Rattle.px_value.specs.declared.thrown.Thrown.TheVariants.{StackOverflowError}
 use Rattle.px_value.specs.Outcome.{Outcome, Gives, Throws, Asks, pure, throw, State, Flow, Goes, Returns}
-use Rattle.px_tree.specs.declared.Stmt.{Stmt}
 use Rattle.px_tree.specs.declared.Method.{Method}
 use Rattle.px_facts.specs.declared.types.Ty.{Ty}
 use Rattle.px_facts.specs.declared.checked.MethodFact.{MethodFact}

@@ -1,5 +1,5 @@
 -- What expressions and statements do to what frames share.
-use Rattle.std.specs.Prelude.{ℕ, zero, ◌+◌, nat_lt, nat_le, Bool, false, ◌&&◌, ◌||◌, List, [], ◌∷◌, ◌++◌, length, map, replicate, Option, Some, None, unwrap_or, slice_get, pos, negsuc, Result, Ok, Err, if◌then◌else◌}
+use Rattle.std.specs.Prelude.{ℕ, ◌+◌, nat_lt, nat_le, Bool, false, ◌&&◌, ◌||◌, List, [], ◌∷◌, ◌++◌, length, map, replicate, Option, Some, None, unwrap_or, slice_get, pos, negsuc, Result, Ok, Err, if◌then◌else◌}
 use Rattle.std.specs.Int.{int_wrap, w32}
 use Rattle.std.specs.List.{sum_by}
 use Rattle.px_value.specs.declared.value.Value.{Value}

@@ -17,7 +17,7 @@ use Rattle.px_facts.specs.declared.types.Ty.TheVariants as ty
 use Rattle.px_facts.specs.declared.checked.Named.{Named}
 use Rattle.px_facts.specs.declared.checked.Named.TheVariants as named
 use Rattle.px_facts.specs.declared.checked.Facts.{Facts}
-use Rattle.px_semantics.specs.Run.{Frame, with_slots, Here, There, gather, came_to, turn}
+use Rattle.px_semantics.specs.Run.{with_slots, Here, There, gather, came_to, turn}
 use Rattle.px_semantics.specs.Facts.{type_at, named_at, fields_of, params_of, op_of, prefix_of}
 use Rattle.px_semantics.specs.Effects.{reference, get_field, put_field, array_length, load, store, new_object, new_array}
 

@@ -1,8 +1,7 @@
 -- The serial run: calls one at a time, each on the heap of its session.
-use Rattle.std.specs.Prelude.{ℕ, zero, suc, List, [], ◌∷◌, replicate, Option, Some, None, slice_get, slice_set}
+use Rattle.std.specs.Prelude.{ℕ, zero, suc, List, [], ◌∷◌, replicate, Option, Some, None, slice_set}
 use Rattle.px_value.specs.declared.value.Value.{Value}
 use Rattle.px_value.specs.declared.object.Object.{Object}
-use Rattle.px_code.specs.declared.reply.Reply.{Reply}
 use Rattle.px_code.specs.declared.reply.Reply.TheVariants as reply
 use Rattle.px_code.specs.declared.reply.Shown.{Shown}
 use Rattle.px_semantics.specs.Facts.{by_number}

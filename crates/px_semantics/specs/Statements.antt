@@ -1,5 +1,5 @@
 -- The meaning of statements, by structure (JLS 14).
-use Rattle.std.specs.Prelude.{ℕ, zero, suc, List, Option, Some, None, option_map, pos, if◌then◌else◌}
+use Rattle.std.specs.Prelude.{ℕ, zero, suc, Option, Some, None, option_map, pos, if◌then◌else◌}
 use Rattle.px_value.specs.declared.value.Value.{Value}
 use Rattle.px_value.specs.declared.value.Value.TheVariants.{Int, Long}
 use Rattle.px_value.specs.declared.op.Op.{Op}

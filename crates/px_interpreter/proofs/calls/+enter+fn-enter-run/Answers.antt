@@ -3,7 +3,7 @@ use Rattle.px_value.specs.declared.value.Value.{Value}
 use Rattle.px_value.specs.Outcome.{Gives}
 use Rattle.px_facts.specs.declared.types.Ty.{Ty}
 use Rattle.px_semantics.specs.Calls.{first_slots, leaves_frame}
-use Rattle.px_interpreter.specs.View.{Here, There, shared_of, frame, source_of}
+use Rattle.px_interpreter.specs.View.{shared_of, frame, source_of}
 use Rattle.px_interpreter.proofs.Frames.{no_frames, no_method, no_fact, entered, exits_frame, none_there}
 use Rattle.px_interpreter.proofs.calls.+enter+fn-enter-run.Goals as goal
 

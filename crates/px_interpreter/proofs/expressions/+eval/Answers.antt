@@ -6,7 +6,6 @@ use Rattle.px_value.specs.Operators.{Applied}
 use Rattle.px_semantics.specs.Run.{came_to}
 use Rattle.px_facts.specs.declared.types.Ty.{Ty}
 use Rattle.px_facts.specs.declared.checked.Named.{Named}
-use Rattle.px_tree.specs.declared.Expr.{Expr}
 use Rattle.px_semantics.specs.Expressions.{literal, name_value, member_value, made_object, called_on, widened, prefixed, combined}
 use Rattle.px_semantics.specs.Facts.{prefix_of}
 use Rattle.px_value.specs.declared.op.Op.{Op}

@@ -1,4 +1,4 @@
-use Rattle.std.proofs.Common.{ap, sym, ◌∙◌, w32, w64, rules, SFits, ℤ, ◌%◌}
+use Rattle.std.proofs.Common.{ap, ◌∙◌, w32, w64, rules, SFits, ◌%◌}
 use Rattle.std.specs.Int.{cast_signed}
 use Rattle.std.proofs.lemmas.Int.{to_z-of_z}
 use Rattle.px_value.specs.declared.value.Value.TheVariants.{Int, Long}

@@ -11,7 +11,7 @@ loop-call-preserved c =
     record {
       source = c.call.ensures.source ∙ c.loop-call.invariant.source;
       calls = call_served (source_from c.args.checked.now) (source_in c.loop-call.plain) c.args.calls.now c.loop-call.call-index c.call-item.result _ c.loop-call.shown.items c.push.new.self.items c.loop-call.plain.heaps.items c.call.new.self.heaps.items c.in_ok-call.field-0
-        at c.loop-call.invariant.source c.in_ok-call.ensures.call c.in_ok-push.ensures.items c.loop-call.invariant.calls;
+          at c.loop-call.invariant.source c.in_ok-call.ensures.call c.in_ok-push.ensures.items c.loop-call.invariant.calls;
     }
 
 pub returns : goal.returns

@@ -1,4 +1,4 @@
-use Rattle.std.proofs.Common.{ap, sym, ◌∙◌, List, Bool, Option, option_map, if◌then◌else◌, map, refl, arith}
+use Rattle.std.proofs.Common.{ap, sym, ◌∙◌, List, Bool, option_map, if◌then◌else◌, map, refl, arith}
 use Rattle.std.specs.Option.{option_copied}
 use Rattle.px_tree.specs.declared.Stmt.{Stmt}
 use Rattle.px_value.specs.Outcome.{◌>>=◌, goes_on, in_order}

@@ -1,8 +1,7 @@
-use Rattle.std.proofs.Common.{ap, sym, Err, ◌∙◌, List, ℕ}
+use Rattle.std.proofs.Common.{ap, sym, Err, ◌∙◌, List}
 use Rattle.px_value.specs.declared.object.Object.{Object}
-use Rattle.px_value.specs.declared.value.Value.{Value}
 use Rattle.px_value.specs.declared.value.Value.TheVariants.{Ref}
-use Rattle.px_value.specs.Outcome.{Outcome, Gives, Throws}
+use Rattle.px_value.specs.Outcome.{Gives, Throws}
 use Rattle.px_value.specs.declared.thrown.Thrown.TheVariants.{HeapFull}
 use Rattle.px_interpreter.specs.View.{There, shared_of}
 use Rattle.px_interpreter.proofs.Rooms.{full_heap, room_left}

@@ -1,6 +1,6 @@
-use Rattle.std.proofs.Common.{ap, sym, ◌∙◌, arith}
+use Rattle.std.proofs.Common.{arith}
 use Rattle.px_interpreter.specs.Plain.{source_in}
-use Rattle.px_interpreter.proofs.Serials.{no_session, past_session, by_session}
+use Rattle.px_interpreter.proofs.Serials.{no_session, past_session}
 use Rattle.px_interpreter.proofs.plain.Plain.call.Goals as goal
 
 pub returns-then-number-len-clause-call : goal.returns-then-number-len-clause-call

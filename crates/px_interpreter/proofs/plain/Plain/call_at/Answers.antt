@@ -1,7 +1,6 @@
-use Rattle.std.proofs.Common.{◌≡◌, ap, sym, ◌∙◌, List, length, slice_get, Some, arith}
+use Rattle.std.proofs.Common.{ap, sym, ◌∙◌, List, Some, arith}
 use Rattle.std.proofs.lemmas.Option.{slice_get_read}
 use Rattle.std.specs.Borrow.{Bor}
-use Rattle.px_value.specs.declared.object.Object.{Object}
 use Rattle.px_tree.specs.declared.Method.{Method}
 use Rattle.px_semantics.specs.Entry.{call_of}
 use Rattle.px_interpreter.specs.Plain.{source_with}
