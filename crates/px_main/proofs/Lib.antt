@@ -8,3 +8,4 @@ pub mod Planned
 pub mod Reported
 pub mod Faults
 pub mod Ran
+pub mod Ruled

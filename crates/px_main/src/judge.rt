@@ -39,7 +39,8 @@ fn ruled_program(alloc: Global, bytes: &[u8]) -> Result<Result<Checked, Fault>, 
     ensures judged { IfOk result (λ judged. IsRuled bytes.now judged) }
     ensures keeps { IfOk result (λ judged. IfOk judged IsJudged) }
 {
-    match find(alloc, bytes)? {
+    let found = find(alloc, bytes)?;
+    match found {
         Err(fault) => Ok(Err(fault)),
         Ok(_) => parsed_program(alloc, bytes),
     }
