@@ -2,6 +2,7 @@
 mod answers;
 mod check;
 mod damaged;
+mod meaning;
 mod outside;
 mod rules;
 mod solo;
