@@ -18,6 +18,7 @@ mod whole;
 use crate::top::still;
 use px_outside::{StdShelf, StdSink};
 use std::process::ExitCode;
+use std::thread::{self, Builder};
 use std::{env, io};
 
 // The status of the command that the words after the program's name are.
@@ -36,11 +37,27 @@ fn status(rt: &HostRuntime) -> io::Result<u8> {
     Ok(still(alloc, words.as_slice(), &mut shelf, &mut sink))
 }
 
-fn main(rt: HostRuntime) -> ExitCode {
-    ExitCode::from(match status(&rt) {
+fn status_or_why(rt: &HostRuntime) -> u8 {
+    match status(rt) {
         Ok(status) => status,
         Err(error) if error.kind() == io::ErrorKind::OutOfMemory => 4,
         // Words that are no text are no command.
         Err(_) => 1,
-    })
+    }
+}
+
+// A call may have 200 frames, each with a hundred levels of expressions and statements, which the stack of a process need not hold.
+const STACK: usize = 0x1000_0000;
+
+fn main(rt: HostRuntime) -> ExitCode {
+    let status = thread::scope(thread::scope_env(), &rt, |scope| {
+        let served = Builder::new()
+            .stack_size(STACK)
+            .spawn_scoped(scope, || status_or_why(&rt));
+        match served {
+            Ok(handle) => handle.join(&rt),
+            Err(_) => 4,
+        }
+    });
+    ExitCode::from(status)
 }

@@ -44,10 +44,10 @@ const DONE: [Case; 6] = [
 const PROGRAM_REFUSED: [Case; 6] = [
     (
         "a form that isn't built",
-        "class Main {\n  public void f() {\n    if (true) { }\n  }\n}\n",
+        "\nCREATE TABLE t (id LONG);\nclass Main { }\n",
         "",
         5,
-        "program 3 Later\n",
+        "program 2 Later\n",
     ),
     (
         "a name that isn't declared",
@@ -66,7 +66,7 @@ const PROGRAM_REFUSED: [Case; 6] = [
     ("an empty file", "", "", 5, "program 1 Syntax\n"),
     (
         "a form that isn't built, in no program",
-        "class Main {\n  while\n",
+        "class Main {\n  ResultSet\n",
         "",
         5,
         "program 2 Later\n",
