@@ -1,4 +1,4 @@
-// A shelf of boxes that grows: objects, arrays, texts, loops and calls. It can be checked, and not run yet.
+// A shelf of boxes that grows: objects, arrays, texts, loops, calls and prints.
 class Box {
   String label;
   int weight;
