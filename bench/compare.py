@@ -628,6 +628,9 @@ def judge(case):
     except Exception as fault:
         wanted = "fault", repr(fault).encode()
     kind = "done" if wanted[0] == 0 else re.sub(rb"^(\w+) (0|\d+) ", lambda m: m[1] + (b" 0 " if m[2] == b"0" else b" N "), wanted[1]).decode("latin-1").strip()
+    if COMMAND == "run" and re.match(rb"program \d+ Later\n", wanted[1]):
+        # The reference knows the small language alone.
+        return group, "of the whole language", None
     if got == wanted:
         return group, kind, None
     if len(program) + len(job) < 3000:
