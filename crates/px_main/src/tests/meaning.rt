@@ -260,7 +260,7 @@ const DEFAULTS: [Case; 5] = [
 ];
 
 // The last that passes and the first that throws. A call that would leave a large heap or many lines ends in a throw of its own.
-const LIMITS: [Case; 16] = [
+const LIMITS: [Case; 17] = [
     (
         "ends of the types",
         "class Main { public long a(long x, long y) { return x / y; } public long b(long x, long y) { return x % y; } public int c(int x, int y) { return x << y; } public int d(long x) { return (int) x; } }",
@@ -276,11 +276,18 @@ const LIMITS: [Case; 16] = [
         "calls\ncall 1 1 threw ArithmeticException\ncall 1 2 threw NullPointerException\ntables\nheaps\nheap 1\n0 Main 0\ndone\n",
     ),
     (
-        "a call has 100,000 tests of loops, and an entry and the methods of a text are no turns",
-        "class Main { public int f(int n, String s) { int i = 0; while (i < n) { if (s.equals(\"a\")) i = i + s.length(); } return i; } }",
-        "call 1 f 99999 \"a\"\ncall 1 f 100000 \"a\"\n",
+        "a call has 100,000 tests of loops",
+        "class Main { public int f(int n) { int i = 0; while (i < n) i++; return i; } }",
+        "call 1 f 99999\ncall 1 f 100000\n",
         0,
         "calls\ncall 1 1 99999\ncall 1 2 threw TurnsOut\ntables\nheaps\nheap 1\n0 Main\ndone\n",
+    ),
+    (
+        "an entry and the methods of a text are no turns",
+        "class Main { public int f(String s) { int k = 0; for (int i = 0; i < 10001; i++) k += s.length() + s.length() + s.length() + s.length() + s.length() + s.length() + s.length() + s.length() + s.length() + s.length(); return k; } }",
+        "call 1 f \"a\"\n",
+        0,
+        "calls\ncall 1 1 100010\ntables\nheaps\nheap 1\n0 Main\ndone\n",
     ),
     (
         "a test counts after it was evaluated",
