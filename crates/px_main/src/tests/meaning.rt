@@ -260,7 +260,7 @@ const DEFAULTS: [Case; 5] = [
 ];
 
 // The last that passes and the first that throws. A call that would leave a large heap or many lines ends in a throw of its own.
-const LIMITS: [Case; 16] = [
+const LIMITS: [Case; 19] = [
     (
         "ends of the types",
         "class Main { public long a(long x, long y) { return x / y; } public long b(long x, long y) { return x % y; } public int c(int x, int y) { return x << y; } public int d(long x) { return (int) x; } }",
@@ -276,11 +276,18 @@ const LIMITS: [Case; 16] = [
         "calls\ncall 1 1 threw ArithmeticException\ncall 1 2 threw NullPointerException\ntables\nheaps\nheap 1\n0 Main 0\ndone\n",
     ),
     (
-        "a call has 100,000 tests of loops, and an entry and the methods of a text are no turns",
-        "class Main { public int f(int n, String s) { int i = 0; while (i < n) { if (s.equals(\"a\")) i = i + s.length(); } return i; } }",
-        "call 1 f 99999 \"a\"\ncall 1 f 100000 \"a\"\n",
+        "a call has 100,000 tests of loops",
+        "class Main { public int f(int n) { int i = 0; while (i < n) i++; return i; } }",
+        "call 1 f 99999\ncall 1 f 100000\n",
         0,
         "calls\ncall 1 1 99999\ncall 1 2 threw TurnsOut\ntables\nheaps\nheap 1\n0 Main\ndone\n",
+    ),
+    (
+        "an entry and the methods of a text are no turns",
+        "class Main { public int f(String s) { int k = 0; for (int i = 0; i < 10001; i++) k += s.length() + s.length() + s.length() + s.length() + s.length() + s.length() + s.length() + s.length() + s.length() + s.length(); return k; } }",
+        "call 1 f \"a\"\n",
+        0,
+        "calls\ncall 1 1 100010\ntables\nheaps\nheap 1\n0 Main\ndone\n",
     ),
     (
         "a test counts after it was evaluated",
@@ -372,6 +379,20 @@ const LIMITS: [Case; 16] = [
         "call 1 f 497 1\ncall 1 f 498 1\ncall 1 f 498 0\ncall 1 f 499 0\ncall 1 g 499 1\ncall 1 g 500 1\ncall 1 g 500 0\n",
         0,
         "calls\ncall 1 1 500\ncall 1 2 threw TextTooLong\ncall 1 3 threw ArithmeticException\ncall 1 4 threw TextTooLong\ncall 1 5 500\ncall 1 6 threw TextTooLong\ncall 1 7 threw ArithmeticException\ntables\nheaps\nheap 1\n0 Main\ndone\n",
+    ),
+    (
+        "what a session keeps counts in its next calls, also what nothing holds",
+        "class Main { int[] k; public void keep(int z) { k = new int[10]; k[0] = 1 / z; } public int f(int n) { long[] a = new long[50000]; boolean[] b = new boolean[n]; return 1 / (b.length - n); } }",
+        "call 1 f 49996\ncall 1 f 49997\ncall 1 keep 0\ncall 1 f 49996\ncall 1 keep 1\ncall 1 f 49985\ncall 1 f 49986\ncall 1 keep 1\ncall 1 f 49974\ncall 1 f 49975\n",
+        0,
+        "calls\ncall 1 1 threw ArithmeticException\ncall 1 2 threw HeapFull\ncall 1 3 threw ArithmeticException\ncall 1 4 threw ArithmeticException\ncall 1 5 void\ncall 1 6 threw ArithmeticException\ncall 1 7 threw HeapFull\ncall 1 8 void\ncall 1 9 threw ArithmeticException\ncall 1 10 threw HeapFull\ntables\nheaps\nheap 1\n0 Main #2\n1 int[] 1 0 0 0 0 0 0 0 0 0\n2 int[] 1 0 0 0 0 0 0 0 0 0\ndone\n",
+    ),
+    (
+        "the methods of a text need no frame",
+        "class Main { public int f(int n, String s) { if (n == 0) return s.length(); return f(n - 1, s); } }",
+        "call 1 f 199 \"abc\"\ncall 1 f 199 null\ncall 1 f 200 \"abc\"\n",
+        0,
+        "calls\ncall 1 1 3\ncall 1 2 threw NullPointerException\ncall 1 3 threw StackOverflowError\ntables\nheaps\nheap 1\n0 Main\ndone\n",
     ),
 ];
 
