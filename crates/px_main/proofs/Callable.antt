@@ -22,7 +22,7 @@ use Rattle.px_lower.specs.WellFormed.{IsLong, IsEntryOf}
 use Rattle.px_lower.specs.Law.{Takes, method_at as source_at}
 use Rattle.px_lower.proofs.FactsOf.{all_append}
 use Rattle.px_session.specs.Serving.{Call}
-use Rattle.px_main.specs.Run.{method_at}
+use Rattle.px_main.specs.Solo.{method_at}
 use Rattle.px_main.specs.Solo.{asked}
 
 -- ---- arguments

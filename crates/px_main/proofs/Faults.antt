@@ -18,11 +18,11 @@ checked_by p c (Some b) is none = cc
 pub checked_found : (p : Program) (c : Checked) → c ≡ rules.checked_of p → rules.fault_of p ≡ None → Ok c ≡ by_breach p (first_breach_of p)
 checked_found p c is none = checked_by p c (first_breach_of p) is none
 
-line_of : Option CheckError → ℕ
+abbrev line_of : Option CheckError → ℕ
 line_of (Some (TypeFault line code)) = line
 line_of _ = 0
 
-code_of : Option CheckError → ℕ
+abbrev code_of : Option CheckError → ℕ
 code_of (Some (TypeFault line code)) = code
 code_of _ = 0
 

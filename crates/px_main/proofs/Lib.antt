@@ -9,3 +9,4 @@ pub mod Reported
 pub mod Faults
 pub mod Ran
 pub mod Ruled
+pub mod Pushed

@@ -5,7 +5,7 @@ ghost use Rattle.px_lower.specs.WellFormed.{IsJudged};
 ghost use Rattle.px_main.specs.Answers.{IsParsed, IsRuled, Judges, max_program};
 
 use crate::fault::{Fault, ProgramCode};
-use crate::whole::find;
+use crate::whole::first_fault;
 use px_lex::first_unbuilt;
 use px_parse::{ParseError, parse};
 use px_types::{CheckError, Checked, check};
@@ -39,10 +39,9 @@ fn ruled_program(alloc: Global, bytes: &[u8]) -> Result<Result<Checked, Fault>, 
     ensures judged { IfOk result (λ judged. IsRuled bytes.now judged) }
     ensures keeps { IfOk result (λ judged. IfOk judged IsJudged) }
 {
-    let found = find(alloc, bytes)?;
-    match found {
-        Err(fault) => Ok(Err(fault)),
-        Ok(_) => parsed_program(alloc, bytes),
+    match first_fault(alloc, bytes)? {
+        Some(fault) => Ok(Err(fault)),
+        None => parsed_program(alloc, bytes),
     }
 }
 

@@ -13,20 +13,39 @@ use px_value::Text;
 use sqlite_items::Items;
 use std::alloc::{AllocError, Global};
 
+fn job_entry(alloc: Global, fact: &px_facts::Entry) -> Result<Entry, AllocError>
+    ensures { IfOk result (λ entry. entry ≡ entry_of fact.now) }
+{
+    let name = fact.name.copy(alloc)?;
+    let params = Items::from_slice(alloc, fact.params.as_slice())?;
+    Ok(Entry {
+        name,
+        method: fact.method,
+        params,
+        gives: fact.gives,
+    })
+}
+
 /// The entries that a job may name.
 pub fn entries(alloc: Global, facts: &[px_facts::Entry]) -> Result<Vec<Entry>, AllocError>
     ensures { IfOk result (λ all. all.items ≡ map entry_of facts.now) }
 {
     let mut all = Vec::new(alloc);
-    for entry in facts {
-        all.push(Entry {
-            name: entry.name.copy(alloc)?,
-            method: entry.method,
-            params: Items::from_slice(alloc, entry.params.as_slice())?,
-            gives: entry.gives,
-        })?;
+    for fact in facts {
+        let entry = job_entry(alloc, fact)?;
+        all.push(entry)?;
     }
     Ok(all)
+}
+
+fn wanted_call(call: &px_job::Call) -> Call<'_>
+    ensures { told_call result ≡ wanted call.now }
+{
+    Call {
+        session: call.session,
+        entry: call.entry,
+        args: call.args.as_slice(),
+    }
 }
 
 fn wanted_calls(alloc: Global, calls: &[px_job::Call]) -> Result<Vec<Call<'_>>, AllocError>
@@ -34,11 +53,7 @@ fn wanted_calls(alloc: Global, calls: &[px_job::Call]) -> Result<Vec<Call<'_>>, 
 {
     let mut all = Vec::new(alloc);
     for call in calls {
-        all.push(Call {
-            session: call.session,
-            entry: call.entry,
-            args: call.args.as_slice(),
-        })?;
+        all.push(wanted_call(call))?;
     }
     Ok(all)
 }

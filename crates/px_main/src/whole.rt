@@ -2,7 +2,7 @@
 ghost use Rattle.std.specs.Prelude.{◌≡◌, ◌≤◌, length, IfSome, IfOk};
 ghost use Rattle.std.specs.Option.{option_map};
 ghost use Rattle.px_main.specs.Answers.{max_program};
-ghost use Rattle.px_main.specs.Whole.{IsFound, JudgesWhole};
+ghost use Rattle.px_main.specs.Whole.{fault_in as fault_of, HasFault, IsFound, JudgesWhole};
 
 use crate::fault::{Fault, ProgramCode};
 use px_facts::Checked;
@@ -11,7 +11,7 @@ use px_rules::{CheckError, check};
 use std::alloc::{AllocError, Global};
 
 /// A text with all that is known of it, or what is wrong with it.
-pub fn find(alloc: Global, bytes: &[u8]) -> Result<Result<Checked, Fault>, AllocError>
+fn find(alloc: Global, bytes: &[u8]) -> Result<Result<Checked, Fault>, AllocError>
     requires { length bytes.now ≤ max_program }
     ensures { IfOk result (λ found. IsFound bytes.now found) }
 {
@@ -31,6 +31,24 @@ pub fn find(alloc: Global, bytes: &[u8]) -> Result<Result<Checked, Fault>, Alloc
         }
         Err(CheckError::NoMemory) => Err(AllocError),
     }
+}
+
+fn fault_in(found: &Result<Checked, Fault>) -> Option<Fault>
+    ensures { result ≡ fault_of found.now }
+{
+    match found {
+        Ok(_) => None,
+        Err(fault) => Some(*fault),
+    }
+}
+
+/// What is wrong with a text, or none.
+pub fn first_fault(alloc: Global, bytes: &[u8]) -> Result<Option<Fault>, AllocError>
+    requires { length bytes.now ≤ max_program }
+    ensures { IfOk result (λ fault. HasFault bytes.now fault) }
+{
+    let found = find(alloc, bytes)?;
+    Ok(fault_in(&found))
 }
 
 /// Judges what was kept of a program file; nothing was kept where it is too long.

@@ -1,11 +1,8 @@
-use Rattle.std.proofs.Common.{sym, refl, subst}
-use Rattle.px_main.specs.Whole.{Found}
-use Rattle.px_main.specs.Answers.{IsTaken, refused_at}
 use Rattle.px_main.proofs.Ruled.{refused, ruled}
 use Rattle.px_main.proofs.judge.ruled_program.Goals as goal
 
-pub returns-in-Err-clause-judged : goal.returns-in-Err-clause-judged
-returns-in-Err-clause-judged c = refused c.args.bytes.now c.in_ok-found.found c.in-Err.fault c.in_ok-found.ensures c.in-Err.is
+pub returns-in-Some-clause-judged : goal.returns-in-Some-clause-judged
+returns-in-Some-clause-judged c = refused c.args.bytes.now c.in_ok-fault.field-0 c.in-Some.fault c.in_ok-fault.ensures c.in-Some.is
 
-pub returns-in-Ok-clause-judged : goal.returns-in-Ok-clause-judged
-returns-in-Ok-clause-judged c = ruled c.args.bytes.now c.in_ok-found.found c.in-Ok.field-0 c.parsed_program.result c.in_ok-found.ensures c.in-Ok.is c.parsed_program.ensures.judged
+pub returns-in-None-clause-judged : goal.returns-in-None-clause-judged
+returns-in-None-clause-judged c = ruled c.args.bytes.now c.in_ok-fault.field-0 c.parsed_program.result c.in_ok-fault.ensures c.in-None.is c.parsed_program.ensures.judged
