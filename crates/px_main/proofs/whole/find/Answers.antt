@@ -19,4 +19,4 @@ returns-in-Ok-check c = grammatical c.in-Ok.program c.in-Ok.ensures.found (check
 pub returns-in-Err-TypeFault : goal.returns-in-Err-TypeFault
 returns-in-Err-TypeFault c =
     let err : CheckError → Result Checked CheckError = λ e. Err e in
-    grammatical c.in-Ok.program c.in-Ok.ensures.found (fault_found c.in-Ok.program c.in-Err-TypeFault.line c.in-Err-TypeFault.code (c.in-Err-TypeFault.ensures.fault c.in-Err-TypeFault.line c.in-Err-TypeFault.code c.in-Err-TypeFault.field-0-is))
+    grammatical c.in-Ok.program c.in-Ok.ensures.found (fault_found c.in-Ok.program c.in-Err-TypeFault.line c.in-Err-TypeFault.code (c.in-Err-TypeFault.ensures.fault c.in-Err-TypeFault.line c.in-Err-TypeFault.code (ap err c.in-Err-TypeFault.field-0-is)))
