@@ -1,15 +1,16 @@
 -- What the parts of statements and expressions do.
 use Rattle.std.specs.Prelude.{ℕ, Bool, List, Option, Some, None, option_map, slice_set, if◌then◌else◌}
 use Rattle.px_value.specs.declared.value.Value.{Value}
-use Rattle.px_value.specs.Outcome.{Flow, ◌>>=◌, pure, on_shared, goes_on}
+use Rattle.px_value.specs.Outcome.{Flow, Goes, ◌>>=◌, pure, on_shared, goes_on}
+use Rattle.px_tree.specs.declared.Sign.{Sign}
 use Rattle.px_tree.specs.declared.Expr.{Expr}
 use Rattle.px_tree.specs.declared.Stmt.{Stmt}
 use Rattle.px_facts.specs.declared.checked.Named.{Named}
 use Rattle.px_facts.specs.declared.checked.Named.TheVariants as named
-use Rattle.px_semantics.specs.Run.{turn}
+use Rattle.px_semantics.specs.Run.{turn, came_to}
 use Rattle.px_semantics.specs.Facts.{type_at, named_at}
 use Rattle.px_semantics.specs.Effects.{load, store, print_line}
-use Rattle.px_semantics.specs.Expressions.{fit, put_member, is_true}
+use Rattle.px_semantics.specs.Expressions.{fit, put_member, is_true, decides, combined}
 use Rattle.px_semantics.specs.Statements.{write_local, loop, all_turns, or_goes}
 use Rattle.px_interpreter.specs.declared.around.Around.{Around}
 use Rattle.px_interpreter.specs.View.{Here, Ending, says, does}
@@ -21,6 +22,13 @@ Part A = Here → Ending Here A
 
 abbrev pub element_value : Around → Expr → Expr → Part Value
 element_value a of index = (says a of).run >>= (λ v. (says a index).run >>= (λ k. on_shared (load v k)))
+
+-- what the right operand comes to, behind the value of the left one, whose number is known
+abbrev pub operand_value : Around → Sign → ℕ → Expr → Value → Part Value
+operand_value a sign left right v = (says a right).run >>= (λ w. came_to (combined sign (type_at a.facts.now left) (says a right).ty v w))
+
+abbrev pub after_left : Around → Sign → ℕ → Expr → Value → Part Value
+after_left a sign left right v = if decides sign v then pure v else operand_value a sign left right v
 
 -- the value of an expression, where a value of the type that is known of a number is wanted
 abbrev pub value_for : Around → ℕ → Expr → Part Value
@@ -44,6 +52,9 @@ declared a value id = (says a value).run >>= fit (says a value).ty (type_at a.fa
 
 abbrev pub printed : Around → Expr → Part (Unit {0})
 printed a value = (says a value).run >>= (λ v. on_shared (print_line v))
+
+abbrev pub evaluated : Around → Expr → Part (Flow Value)
+evaluated a e = (says a e).run >>= (λ _. pure Goes)
 
 -- the test of a loop, counted
 abbrev pub tested : Around → Expr → Part Bool

@@ -1,5 +1,5 @@
 //! The operators and literals of the syntax tree.
-ghost use Rattle.std.specs.Prelude.{◌≡◌, ◌%◌, ◌^◌, Ok, IfOk};
+ghost use Rattle.std.specs.Prelude.{◌≡◌, ◌%◌, ◌^◌, Ok};
 ghost use Rattle.px_value.specs.declared.value.Value.TheVariants.{Text as TextValue};
 ghost use Rattle.px_value.specs.Operators.{apply as mean_apply};
 ghost use Rattle.px_semantics.specs.Expressions.{decimal_value, literal as mean_literal, widened as mean_widened, prefixed as mean_prefixed, is_true as mean_is_true, decides as mean_decides, combined as mean_combined};
@@ -12,7 +12,7 @@ use px_facts::Ty;
 use px_ops::{Op, apply, changed};
 use px_tree::Sign;
 use px_value::{Text, Value};
-use std::alloc::{AllocError, Global};
+use std::alloc::Global;
 
 /// What an operator comes to.
 pub fn applied(alloc: Global, op: Op, a: &Value, b: &Value) -> Result<Value, Stop>
@@ -44,6 +44,7 @@ pub fn widened(from: Ty, to: Ty, value: Value) -> Value
 }
 
 // The value of the digits, in its low 64 bits.
+#[inline(never)]
 fn decimal_bits(digits: &[u8]) -> u64
     ensures { result ≡ decimal_value digits.now 0 % 2 ^ 64 }
 {
@@ -57,7 +58,6 @@ fn decimal_bits(digits: &[u8]) -> u64
 }
 
 /// The value of an integer literal.
-#[inline(never)]
 pub fn literal(digits: &[u8], long: bool) -> Value
     ensures { result ≡ mean_literal digits.now long }
 {
@@ -71,8 +71,8 @@ pub fn literal(digits: &[u8], long: bool) -> Value
 
 /// The value of a string literal.
 #[inline(never)]
-pub fn text(alloc: Global, bytes: &[u8]) -> Result<Value, AllocError>
-    ensures { IfOk result (λ v. v ≡ TextValue bytes.now) }
+pub fn text(alloc: Global, bytes: &[u8]) -> Result<Value, Stop>
+    ensures { Came result (Ok (TextValue bytes.now)) }
 {
     let bytes = Vec::from_slice(alloc, bytes)?;
     Ok(Value::Text(Text::from_vec(bytes)))

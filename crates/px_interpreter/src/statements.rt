@@ -1,5 +1,5 @@
 //! Statements, run from the syntax tree.
-ghost use Rattle.std.specs.Prelude.{◌≡◌, ◌≤◌, ◌<◌, ℕ, map, option_map, slice_set, OnOk};
+ghost use Rattle.std.specs.Prelude.{◌≡◌, ◌≤◌, ◌<◌, ℕ, map, option_map, slice_set, None, OnOk};
 ghost use Rattle.std.specs.Option.{option_copied};
 ghost use Rattle.px_value.specs.Outcome.{pure, in_order};
 ghost use Rattle.px_semantics.specs.Run.{max_turns};
@@ -302,6 +302,25 @@ fn returned<F: Fn(&mut Machine, u16, Values) -> Result<Option<Value>, Stop>>(
     }
 }
 
+// A call whose value nobody wants.
+#[inline(never)]
+fn evaluated<F: Fn(&mut Machine, u16, Values) -> Result<Option<Value>, Stop>>(
+    around: &Around,
+    run: &F,
+    m: &mut Machine,
+    slots: &Values,
+    call: &Expr,
+) -> Result<Next, Stop>
+    requires callable { F.IsAlwaysCallable run.now }
+    requires calls { (m : _) (method : ℕ) (values : _) (r : _) (m' : _) → F.post run.now m method values r m' → CallEnds around.now m.now method values r m'.now }
+    ensures ends { EndsFlow (frame slots.now m.new) result (parts.evaluated around.now call.now (frame slots.now m.old)) }
+    ensures kept { IfKept result (Keeps m.old m.new) }
+    ensures turns { m.old.turns ≤ m.new.turns }
+{
+    let _ = eval(around, run, m, slots, call)?;
+    Ok(Next::Goes)
+}
+
 // The test of a loop, which is counted once it was evaluated.
 #[inline(never)]
 fn tested<F: Fn(&mut Machine, u16, Values) -> Result<Option<Value>, Stop>>(
@@ -389,19 +408,9 @@ pub fn exec<F: Fn(&mut Machine, u16, Values) -> Result<Option<Value>, Stop>>(
             step(around, m, slots, Op::Sub, s.id)?;
             Ok(Next::Goes)
         }
-        StmtForm::Call(call) => {
-            let _ = eval(around, run, m, slots, call)?;
-            Ok(Next::Goes)
-        }
-        StmtForm::If { test, yes, no } => {
-            if holds(around, run, m, slots, test)? {
-                return exec(around, run, m, slots, yes.get());
-            }
-            exec_else(around, run, m, slots, no)
-        }
-        StmtForm::While { test, body } => {
-            exec_loop(around, run, m, slots, body.get(), None, test)
-        }
+        StmtForm::Call(call) => { evaluated(around, run, m, slots, call) }
+        StmtForm::If { test, yes, no } => { exec_if(around, run, m, slots, no, yes.get(), test) }
+        StmtForm::While { test, body } => { exec_while(around, run, m, slots, body.get(), test) }
         StmtForm::For {
             first,
             test,
@@ -451,6 +460,29 @@ fn exec_all<F: Fn(&mut Machine, u16, Values) -> Result<Option<Value>, Stop>>(
 
 #[cycle(exec)]
 #[inline(never)]
+fn exec_if<F: Fn(&mut Machine, u16, Values) -> Result<Option<Value>, Stop>>(
+    around: &Around,
+    run: &F,
+    m: &mut Machine,
+    slots: &mut Values,
+    no: &Option<Boxed<Stmt>>,
+    yes: &Stmt,
+    test: &Expr,
+) -> Result<Next, Stop>
+    requires callable { F.IsAlwaysCallable run.now }
+    requires calls { (m : _) (method : ℕ) (values : _) (r : _) (m' : _) → F.post run.now m method values r m' → CallEnds around.now m.now method values r m'.now }
+    ensures ends { EndsFlow (frame slots.new m.new) result (parts.chosen around.now test.now yes.now no.now (frame slots.old m.old)) }
+    ensures kept { IfKept result (Keeps m.old m.new) }
+    ensures turns { m.old.turns ≤ m.new.turns }
+{
+    if holds(around, run, m, slots, test)? {
+        return exec(around, run, m, slots, yes);
+    }
+    exec_else(around, run, m, slots, no)
+}
+
+#[cycle(exec)]
+#[inline(never)]
 fn exec_else<F: Fn(&mut Machine, u16, Values) -> Result<Option<Value>, Stop>>(
     around: &Around,
     run: &F,
@@ -494,7 +526,7 @@ fn exec_last<F: Fn(&mut Machine, u16, Values) -> Result<Option<Value>, Stop>>(
 
 // The body of a loop, and the last part of a `for`.
 #[cycle(exec)]
-#[inline(never)]
+#[inline(always)]
 fn exec_round<F: Fn(&mut Machine, u16, Values) -> Result<Option<Value>, Stop>>(
     around: &Around,
     run: &F,
@@ -516,7 +548,7 @@ fn exec_round<F: Fn(&mut Machine, u16, Values) -> Result<Option<Value>, Stop>>(
 }
 
 #[cycle(exec)]
-#[inline(never)]
+#[inline(always)]
 fn exec_loop<F: Fn(&mut Machine, u16, Values) -> Result<Option<Value>, Stop>>(
     around: &Around,
     run: &F,
@@ -541,6 +573,25 @@ fn exec_loop<F: Fn(&mut Machine, u16, Values) -> Result<Option<Value>, Stop>>(
             Next::Returns(value) => return Ok(Next::Returns(value)),
         }
     }
+}
+
+#[cycle(exec)]
+#[inline(never)]
+fn exec_while<F: Fn(&mut Machine, u16, Values) -> Result<Option<Value>, Stop>>(
+    around: &Around,
+    run: &F,
+    m: &mut Machine,
+    slots: &mut Values,
+    body: &Stmt,
+    test: &Expr,
+) -> Result<Next, Stop>
+    requires callable { F.IsAlwaysCallable run.now }
+    requires calls { (m : _) (method : ℕ) (values : _) (r : _) (m' : _) → F.post run.now m method values r m' → CallEnds around.now m.now method values r m'.now }
+    ensures ends { EndsFlow (frame slots.new m.new) result (parts.loops around.now test.now body.now None statements.all_turns (frame slots.old m.old)) }
+    ensures kept { IfKept result (Keeps m.old m.new) }
+    ensures turns { m.old.turns ≤ m.new.turns }
+{
+    exec_loop(around, run, m, slots, body, None, test)
 }
 
 #[cycle(exec)]

@@ -18,9 +18,6 @@ pub exec-returns-in-Block-clause-ends : goal.exec-returns-in-Block-clause-ends
 exec-returns-in-Block-clause-ends g t c =
     same_flow _ _ _ _ (does_block c.args.around.now c.args.s.now _ _ c.in-Block.is ∙ ap (λ (xs : List Stmt). in_order (map (does c.args.around.now) xs) (frame c.args.slots.now c.args.m.now)) (sym c.as_slice.ensures)) c.exec_all.ensures.ends
 
-pub exec-returns-in-While-clause-ends : goal.exec-returns-in-While-clause-ends
-exec-returns-in-While-clause-ends g t c = same_flow _ _ _ _ (does_while c.args.around.now c.args.s.now _ _ _ _ c.in-While.is c.get-in-While.ensures) c.exec_loop.ensures.ends
-
 pub exec-returns-in-For-clause-ends : goal.exec-returns-in-For-clause-ends
 exec-returns-in-For-clause-ends g t c = same_flow _ _ _ _ (does_for c.args.around.now c.args.s.now _ _ _ _ _ _ _ _ c.in-For.is c.get-in-For.ensures c.get-in-For-3.ensures c.get-in-For-2.ensures) c.exec_for.ensures.ends
 
@@ -67,14 +64,6 @@ pub exec-returns-in_ok-step-in-Down-clause-ends : goal.exec-returns-in_ok-step-i
 exec-returns-in_ok-step-in-Down-clause-ends g t c =
     does_down c.args.around.now c.args.s.now _ _ c.in-Down.is ∙ gives_then _ _ _ _ c.in_ok-step-in-Down.ensures
 
-pub exec-returns-in_err-eval-in-Call-clause-ends : goal.exec-returns-in_err-eval-in-Call-clause-ends
-exec-returns-in_err-eval-in-Call-clause-ends g t c =
-    exits_flow _ _ _ _ _ _ c.from_residual-in_err-eval-in-Call.ensures.1 c.in_err-eval-in-Call.ensures.ends (does_call c.args.around.now c.args.s.now _ _ c.in-Call.is)
-
-pub exec-returns-in_ok-eval-in-Call-clause-ends : goal.exec-returns-in_ok-eval-in-Call-clause-ends
-exec-returns-in_ok-eval-in-Call-clause-ends g t c =
-    does_call c.args.around.now c.args.s.now _ _ c.in-Call.is ∙ gives_then _ _ _ _ c.in_ok-eval-in-Call.ensures.ends
-
 pub exec-returns-in_err-print-in-Print-clause-ends : goal.exec-returns-in_err-print-in-Print-clause-ends
 exec-returns-in_err-print-in-Print-clause-ends g t c =
     exits_flow _ _ _ _ _ _ c.from_residual-in_err-print-in-Print.ensures.1 c.in_err-print-in-Print.ensures.ends (does_print c.args.around.now c.args.s.now _ _ c.in-Print.is)
@@ -83,25 +72,33 @@ pub exec-returns-in_ok-print-in-Print-clause-ends : goal.exec-returns-in_ok-prin
 exec-returns-in_ok-print-in-Print-clause-ends g t c =
     does_print c.args.around.now c.args.s.now _ _ c.in-Print.is ∙ gives_then _ _ _ _ c.in_ok-print-in-Print.ensures.ends
 
-pub exec-returns-in_err-holds-in-If-clause-ends : goal.exec-returns-in_err-holds-in-If-clause-ends
-exec-returns-in_err-holds-in-If-clause-ends g t c =
-    exits_flow _ _ _ _ _ _ c.from_residual-in_err-holds-in-If.ensures.1 c.in_err-holds-in-If.ensures.ends
-    (does_if c.args.around.now c.args.s.now _ _ _ c.in-If.yes _ c.in-If.is refl ∙ chosen_is c.args.around.now c.in-If.test c.in-If.yes c.in-If.no _)
+pub exec-returns-in-While-clause-ends : goal.exec-returns-in-While-clause-ends
+exec-returns-in-While-clause-ends g t c = same_flow _ _ _ _ (does_while c.args.around.now c.args.s.now _ _ _ _ c.in-While.is c.get-in-While.ensures) c.exec_while.ensures.ends
 
-pub exec-returns-then-branch-clause-ends : goal.exec-returns-then-branch-clause-ends
-exec-returns-then-branch-clause-ends g t c =
+pub exec-returns-in-Call-clause-ends : goal.exec-returns-in-Call-clause-ends
+exec-returns-in-Call-clause-ends g t c = same_flow _ _ _ _ (does_call c.args.around.now c.args.s.now _ _ c.in-Call.is) c.evaluated.ensures.ends
+
+pub exec-returns-in-If-clause-ends : goal.exec-returns-in-If-clause-ends
+exec-returns-in-If-clause-ends g t c = same_flow _ _ _ _ (does_if c.args.around.now c.args.s.now _ _ _ _ _ c.in-If.is c.get.ensures) c.exec_if.ensures.ends
+
+pub exec_if-returns-in_err-holds-clause-ends : goal.exec_if-returns-in_err-holds-clause-ends
+exec_if-returns-in_err-holds-clause-ends g t c =
+    exits_flow _ _ _ _ _ _ c.from_residual.ensures.1 c.in_err-holds.ensures.ends (chosen_is c.args.around.now c.args.test.now c.args.yes.now c.args.no.now _)
+
+pub exec_if-returns-then-branch-clause-ends : goal.exec_if-returns-then-branch-clause-ends
+exec_if-returns-then-branch-clause-ends g t c =
     let far : Here = frame c.args.slots.now c.holds.new.m in
     same_flow _ _ _ _
-    (does_if c.args.around.now c.args.s.now _ _ _ _ _ c.in-If.is c.get.ensures ∙ chosen_is c.args.around.now c.in-If.test c.get.result.now c.in-If.no _ ∙ gives_then _ _ _ _ c.in_ok-holds-in-If.ensures.ends
-    ∙ ap (λ (b : Bool). (if b then does c.args.around.now c.get.result.now else or_goes (option_map (does c.args.around.now) c.in-If.no)) far) c.if-branch.true)
+    (chosen_is c.args.around.now c.args.test.now c.args.yes.now c.args.no.now _ ∙ gives_then _ _ _ _ c.in_ok-holds.ensures.ends
+    ∙ ap (λ (b : Bool). (if b then does c.args.around.now c.args.yes.now else or_goes (option_map (does c.args.around.now) c.args.no.now)) far) c.if-branch.true)
     c.exec.ensures.ends
 
-pub exec-returns-else-branch-clause-ends : goal.exec-returns-else-branch-clause-ends
-exec-returns-else-branch-clause-ends g t c =
+pub exec_if-returns-clause-ends : goal.exec_if-returns-clause-ends
+exec_if-returns-clause-ends g t c =
     let far : Here = frame c.args.slots.now c.holds.new.m in
     same_flow _ _ _ _
-    (does_if c.args.around.now c.args.s.now _ _ _ c.in-If.yes _ c.in-If.is refl ∙ chosen_is c.args.around.now c.in-If.test c.in-If.yes c.in-If.no _ ∙ gives_then _ _ _ _ c.in_ok-holds-in-If.ensures.ends
-    ∙ ap (λ (b : Bool). (if b then does c.args.around.now c.in-If.yes else or_goes (option_map (does c.args.around.now) c.in-If.no)) far) c.if-branch.false)
+    (chosen_is c.args.around.now c.args.test.now c.args.yes.now c.args.no.now _ ∙ gives_then _ _ _ _ c.in_ok-holds.ensures.ends
+    ∙ ap (λ (b : Bool). (if b then does c.args.around.now c.args.yes.now else or_goes (option_map (does c.args.around.now) c.args.no.now)) far) c.if-branch.false)
     c.exec_else.ensures.ends
 
 pub exec_for-returns-in-Goes-clause-ends : goal.exec_for-returns-in-Goes-clause-ends

@@ -21,6 +21,12 @@ decreases-exec_all g l = 5 * goal.size-exec_all g l + 1
 abbrev pub decreases-exec_else : goal.decreases-exec_else
 decreases-exec_else g l = 5 * goal.size-exec_else g l + 1
 
+abbrev pub decreases-exec_if : goal.decreases-exec_if
+decreases-exec_if g l = 5 * max (size-Stmt l.yes.now) (goal.size-exec_if g l) + 2
+
+abbrev pub decreases-exec_while : goal.decreases-exec_while
+decreases-exec_while g l = 5 * size-Stmt l.body.now + 4
+
 abbrev pub decreases-exec_last : goal.decreases-exec_last
 decreases-exec_last g l = 5 * size_if l.last + 1
 
