@@ -214,6 +214,22 @@ fn invoke<F: Fn(&mut Machine, u16, Values) -> Result<Option<Value>, Stop>>(
     }
 }
 
+// What the values of both operands come to, whose numbers are known.
+#[inline(never)]
+fn joined(
+    around: &Around,
+    sign: Sign,
+    left: u32,
+    right: u32,
+    a: &Value,
+    b: Value,
+) -> Result<Value, Stop>
+    ensures { Came result (expressions.combined sign (mean_type_at around.now.facts.now left) (mean_type_at around.now.facts.now right) a.now b) }
+{
+    let types = (type_at(around.facts, left), type_at(around.facts, right));
+    combined(around.alloc, sign, types, a, b)
+}
+
 /// The value of an expression.
 #[cycle(eval)]
 pub fn eval<F: Fn(&mut Machine, u16, Values) -> Result<Option<Value>, Stop>>(
@@ -378,7 +394,7 @@ fn binary<F: Fn(&mut Machine, u16, Values) -> Result<Option<Value>, Stop>>(
 
 // What comes of the right operand, behind the value of the left one.
 #[cycle(eval)]
-#[inline(never)]
+#[inline(always)]
 fn with_left<F: Fn(&mut Machine, u16, Values) -> Result<Option<Value>, Stop>>(
     around: &Around,
     run: &F,
@@ -399,8 +415,7 @@ fn with_left<F: Fn(&mut Machine, u16, Values) -> Result<Option<Value>, Stop>>(
         return Ok(a);
     }
     let b = eval(around, run, m, slots, right)?;
-    let types = (type_at(around.facts, left), type_at(around.facts, right.id));
-    combined(around.alloc, sign, types, &a, b)
+    joined(around, sign, left, right.id, &a, b)
 }
 
 #[cycle(eval)]
@@ -468,7 +483,7 @@ pub fn fitted<F: Fn(&mut Machine, u16, Values) -> Result<Option<Value>, Stop>>(
 
 // The arguments, behind the values that are there.
 #[cycle(eval)]
-#[inline(never)]
+#[inline(always)]
 fn arguments<F: Fn(&mut Machine, u16, Values) -> Result<Option<Value>, Stop>>(
     around: &Around,
     run: &F,

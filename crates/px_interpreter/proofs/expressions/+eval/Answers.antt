@@ -7,7 +7,7 @@ use Rattle.px_semantics.specs.Run.{came_to}
 use Rattle.px_facts.specs.declared.types.Ty.{Ty}
 use Rattle.px_facts.specs.declared.checked.Named.{Named}
 use Rattle.px_semantics.specs.Expressions.{literal, member_value, called, widened, prefixed, combined, decides}
-use Rattle.px_semantics.specs.Facts.{prefix_of, named_at}
+use Rattle.px_semantics.specs.Facts.{prefix_of, named_at, type_at}
 use Rattle.px_value.specs.declared.op.Op.{Op}
 use Rattle.px_tree.specs.declared.Expr.{Expr}
 use Rattle.px_interpreter.specs.Parts.{operand_value}
@@ -110,5 +110,5 @@ with_left-returns-clause-ends g t c =
     same_end _ _ _ _
     (ap (λ (d : Bool). (if d then pure c.args.a else operand_value c.args.around.now c.args.sign c.args.left c.args.right.now c.args.a) near) (sym c.decides.ensures ∙ c.if-decides.false)
     ∙ gives_then _ _ _ _ c.in_ok-b.ensures.ends
-    ∙ (λ i. came_to (combined c.args.sign (sym c.type_at.ensures i) ((type_says c.args.around.now c.args.right.now ∙ sym c.type_at-2.ensures) i) c.args.a c.in_ok-b.b) far))
-    (ends_came far _ _ c.combined.ensures)
+    ∙ ap (λ (t : Ty). came_to (combined c.args.sign (type_at c.args.around.now.facts.now c.args.left) t c.args.a c.in_ok-b.b) far) (type_says c.args.around.now c.args.right.now))
+    (ends_came far _ _ c.joined.ensures)
