@@ -358,8 +358,8 @@ fn holds<F: Fn(&mut Machine, u16, Values) -> Result<Option<Value>, Stop>>(
     ensures kept { IfKept result (Keeps m.old m.new) }
     ensures turns { m.old.turns ≤ m.new.turns }
 {
-    let value = eval(around, run, m, slots, test)?;
-    Ok(is_true(&value))
+    let truth = eval(around, run, m, slots, test)?;
+    Ok(is_true(&truth))
 }
 
 /// What a statement does.
