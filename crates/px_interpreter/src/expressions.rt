@@ -441,7 +441,7 @@ fn receiver<F: Fn(&mut Machine, u16, Values) -> Result<Option<Value>, Stop>>(
 
 // The receiver, behind the values that are there.
 #[cycle(eval)]
-#[inline(never)]
+#[inline(always)]
 fn receive<F: Fn(&mut Machine, u16, Values) -> Result<Option<Value>, Stop>>(
     around: &Around,
     run: &F,

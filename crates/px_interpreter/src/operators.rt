@@ -1,7 +1,7 @@
 //! The operators and literals of the syntax tree.
 ghost use Rattle.std.specs.Prelude.{◌≡◌, ◌%◌, ◌^◌, Ok};
 ghost use Rattle.px_value.specs.declared.value.Value.TheVariants.{Text as TextValue};
-ghost use Rattle.px_value.specs.Operators.{apply as mean_apply};
+ghost use Rattle.px_value.specs.Operators.{apply as mean_apply, changed as mean_changed};
 ghost use Rattle.px_semantics.specs.Expressions.{decimal_value, literal as mean_literal, widened as mean_widened, prefixed as mean_prefixed, is_true as mean_is_true, decides as mean_decides, combined as mean_combined};
 ghost use Rattle.px_semantics.specs.Statements.{one as mean_one};
 ghost use Rattle.px_interpreter.specs.View.{Came};
@@ -9,7 +9,7 @@ ghost use Rattle.px_interpreter.specs.View.{Came};
 use crate::facts::op_of;
 use crate::stop::Stop;
 use px_facts::Ty;
-use px_ops::{Op, apply, changed};
+use px_ops::{Op, apply};
 use px_tree::Sign;
 use px_value::{Text, Value};
 use std::alloc::Global;
@@ -32,13 +32,25 @@ pub fn prefixed(alloc: Global, op: Option<Op>, value: Value) -> Result<Value, St
     }
 }
 
+// An int as a long.
+#[inline(always)]
+fn as_long(value: &Value) -> Value
+    ensures { Ok result ≡ mean_changed Op.Widen value.now }
+{
+    match value {
+        Value::Int(n) => Value::Long(i64::from(*n)),
+        _ => Value::Null,
+    }
+}
+
 /// A value where another type is wanted: an int becomes a long.
 #[tactic(auto, unfolding(px_value::specs::Operators::apply))]
+#[inline(always)]
 pub fn widened(from: Ty, to: Ty, value: Value) -> Value
     ensures { mean_widened from to value ≡ Ok result }
 {
     match (from, to) {
-        (Ty::Int, Ty::Long) => changed(Op::Widen, &value),
+        (Ty::Int, Ty::Long) => as_long(&value),
         (_, _) => value,
     }
 }
