@@ -77,5 +77,9 @@ then_last a last = or_goes (option_map (does a) last)
 abbrev pub loops : Around → Expr → Stmt → Option Stmt → ℕ → Part (Flow Value)
 loops a test body last n = loop (says a test).run (round a body last) n
 
-abbrev pub looped : Around → Stmt → Expr → Stmt → Stmt → Part (Flow Value)
-looped a begin test last body = does a begin >>= goes_on (loop (says a test).run (does a body >>= goes_on (does a last)) all_turns)
+-- what stands before the loop, and then the loop
+abbrev pub loops_behind : Around → Option Stmt → Expr → Option Stmt → Stmt → ℕ → Part (Flow Value)
+loops_behind a begin test last body n = then_last a begin >>= goes_on (loops a test body last n)
+
+abbrev pub looped : Around → Option Stmt → Expr → Option Stmt → Stmt → Part (Flow Value)
+looped a begin test last body = loops_behind a begin test last body all_turns

@@ -1,5 +1,5 @@
 //! Statements, run from the syntax tree.
-ghost use Rattle.std.specs.Prelude.{◌≡◌, ◌≤◌, ◌<◌, ℕ, map, option_map, slice_set, None, OnOk};
+ghost use Rattle.std.specs.Prelude.{◌≡◌, ◌≤◌, ◌<◌, ℕ, map, option_map, slice_set, OnOk};
 ghost use Rattle.std.specs.Option.{option_copied};
 ghost use Rattle.px_value.specs.Outcome.{pure, in_order};
 ghost use Rattle.px_semantics.specs.Run.{max_turns};
@@ -410,20 +410,22 @@ pub fn exec<F: Fn(&mut Machine, u16, Values) -> Result<Option<Value>, Stop>>(
         }
         StmtForm::Call(call) => { evaluated(around, run, m, slots, call) }
         StmtForm::If { test, yes, no } => { exec_if(around, run, m, slots, no, yes.get(), test) }
-        StmtForm::While { test, body } => { exec_while(around, run, m, slots, body.get(), test) }
+        StmtForm::While { test, body } => {
+            exec_loop(around, run, m, slots, None, body.get(), None, test)
+        }
         StmtForm::For {
             first,
             test,
             last,
             body,
-        } => exec_for(
+        } => exec_loop(
             around,
             run,
             m,
             slots,
-            first.get(),
+            Some(first.get()),
             body.get(),
-            last.get(),
+            Some(last.get()),
             test,
         ),
         StmtForm::Return(value) => returned(around, run, m, slots, value),
@@ -502,7 +504,7 @@ fn exec_else<F: Fn(&mut Machine, u16, Values) -> Result<Option<Value>, Stop>>(
     }
 }
 
-// The last part of a `for`.
+// What stands before a turn of a loop, if anything does.
 #[cycle(exec)]
 #[inline(never)]
 fn exec_last<F: Fn(&mut Machine, u16, Values) -> Result<Option<Value>, Stop>>(
@@ -524,96 +526,38 @@ fn exec_last<F: Fn(&mut Machine, u16, Values) -> Result<Option<Value>, Stop>>(
     }
 }
 
-// The body of a loop, and the last part of a `for`.
+// A loop: `first` before it, and `last` behind each of its turns.
 #[cycle(exec)]
-#[inline(always)]
-fn exec_round<F: Fn(&mut Machine, u16, Values) -> Result<Option<Value>, Stop>>(
-    around: &Around,
-    run: &F,
-    m: &mut Machine,
-    slots: &mut Values,
-    body: &Stmt,
-    last: Option<&Stmt>,
-) -> Result<Next, Stop>
-    requires callable { F.IsAlwaysCallable run.now }
-    requires calls { (m : _) (method : ℕ) (values : _) (r : _) (m' : _) → F.post run.now m method values r m' → CallEnds around.now m.now method values r m'.now }
-    ensures ends { EndsFlow (frame slots.new m.new) result (parts.round around.now body.now (option_copied last.entry) (frame slots.old m.old)) }
-    ensures kept { IfKept result (Keeps m.old m.new) }
-    ensures turns { m.old.turns ≤ m.new.turns }
-{
-    match exec(around, run, m, slots, body)? {
-        Next::Goes => exec_last(around, run, m, slots, last),
-        Next::Returns(value) => Ok(Next::Returns(value)),
-    }
-}
-
-#[cycle(exec)]
-#[inline(always)]
+#[inline(never)]
 fn exec_loop<F: Fn(&mut Machine, u16, Values) -> Result<Option<Value>, Stop>>(
     around: &Around,
     run: &F,
     m: &mut Machine,
     slots: &mut Values,
+    first: Option<&Stmt>,
     body: &Stmt,
     last: Option<&Stmt>,
     test: &Expr,
 ) -> Result<Next, Stop>
     requires callable { F.IsAlwaysCallable run.now }
     requires calls { (m : _) (method : ℕ) (values : _) (r : _) (m' : _) → F.post run.now m method values r m' → CallEnds around.now m.now method values r m'.now }
-    ensures ends { EndsFlow (frame slots.new m.new) result (parts.loops around.now test.now body.now (option_copied last.entry) statements.all_turns (frame slots.old m.old)) }
+    ensures ends { EndsFlow (frame slots.new m.new) result (parts.looped around.now (option_copied first.entry) test.now (option_copied last.entry) body.now (frame slots.old m.old)) }
     ensures kept { IfKept result (Keeps m.old m.new) }
     ensures turns { m.old.turns ≤ m.new.turns }
 {
+    let mut before = first;
     loop {
-        if !tested(around, run, m, slots, test)? {
-            return Ok(Next::Goes);
-        }
-        match exec_round(around, run, m, slots, body, last)? {
+        match exec_last(around, run, m, slots, before)? {
             Next::Goes => {}
             Next::Returns(value) => return Ok(Next::Returns(value)),
         }
-    }
-}
-
-#[cycle(exec)]
-#[inline(never)]
-fn exec_while<F: Fn(&mut Machine, u16, Values) -> Result<Option<Value>, Stop>>(
-    around: &Around,
-    run: &F,
-    m: &mut Machine,
-    slots: &mut Values,
-    body: &Stmt,
-    test: &Expr,
-) -> Result<Next, Stop>
-    requires callable { F.IsAlwaysCallable run.now }
-    requires calls { (m : _) (method : ℕ) (values : _) (r : _) (m' : _) → F.post run.now m method values r m' → CallEnds around.now m.now method values r m'.now }
-    ensures ends { EndsFlow (frame slots.new m.new) result (parts.loops around.now test.now body.now None statements.all_turns (frame slots.old m.old)) }
-    ensures kept { IfKept result (Keeps m.old m.new) }
-    ensures turns { m.old.turns ≤ m.new.turns }
-{
-    exec_loop(around, run, m, slots, body, None, test)
-}
-
-#[cycle(exec)]
-#[inline(never)]
-fn exec_for<F: Fn(&mut Machine, u16, Values) -> Result<Option<Value>, Stop>>(
-    around: &Around,
-    run: &F,
-    m: &mut Machine,
-    slots: &mut Values,
-    first: &Stmt,
-    body: &Stmt,
-    last: &Stmt,
-    test: &Expr,
-) -> Result<Next, Stop>
-    requires callable { F.IsAlwaysCallable run.now }
-    requires calls { (m : _) (method : ℕ) (values : _) (r : _) (m' : _) → F.post run.now m method values r m' → CallEnds around.now m.now method values r m'.now }
-    ensures ends { EndsFlow (frame slots.new m.new) result (parts.looped around.now first.now test.now last.now body.now (frame slots.old m.old)) }
-    ensures kept { IfKept result (Keeps m.old m.new) }
-    ensures turns { m.old.turns ≤ m.new.turns }
-{
-    match exec(around, run, m, slots, first)? {
-        Next::Goes => exec_loop(around, run, m, slots, body, Some(last), test),
-        Next::Returns(value) => Ok(Next::Returns(value)),
+        if !tested(around, run, m, slots, test)? {
+            return Ok(Next::Goes);
+        }
+        match exec(around, run, m, slots, body)? {
+            Next::Goes => {}
+            Next::Returns(value) => return Ok(Next::Returns(value)),
+        }
+        before = last;
     }
 }
