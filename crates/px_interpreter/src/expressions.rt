@@ -20,7 +20,7 @@ use px_facts::{Named, Ty};
 use px_ops::Op;
 use px_tree::{Expr, ExprForm, Sign};
 use px_value::{Thrown, Value, Values};
-use sqlite_items::Boxed;
+use sqlite_items::{Boxed, Items};
 use std::alloc::{AllocError, Global};
 
 /// The value in a slot, or null where there is none.
@@ -265,9 +265,7 @@ pub fn eval<F: Fn(&mut Machine, u16, Values) -> Result<Option<Value>, Stop>>(
             )
         }
         ExprForm::Index { of, index } => element(around, run, m, slots, of.get(), index.get()),
-        ExprForm::Call { of, name: _, args } => {
-            call(around, run, m, slots, args.as_slice(), of, e.id)
-        }
+        ExprForm::Call { of, name: _, args } => { call(around, run, m, slots, args, of, e.id) }
         ExprForm::NewObject(_) => made_object(around, m, slots, e.id),
         ExprForm::NewArray { base: _, length } => {
             array(around, run, m, slots, length.get(), e.id)
@@ -516,7 +514,7 @@ fn call<F: Fn(&mut Machine, u16, Values) -> Result<Option<Value>, Stop>>(
     run: &F,
     m: &mut Machine,
     slots: &Values,
-    args: &[Expr],
+    args: &Items<Expr>,
     of: &Option<Boxed<Expr>>,
     id: u32,
 ) -> Result<Value, Stop>
@@ -530,6 +528,6 @@ fn call<F: Fn(&mut Machine, u16, Values) -> Result<Option<Value>, Stop>>(
     receive(around, run, m, slots, of, &mut values)?;
     let name = named_at(around.facts, id);
     let wanted = params_of(around.facts, name);
-    arguments(around, run, m, slots, args, wanted, &mut values)?;
+    arguments(around, run, m, slots, args.as_slice(), wanted, &mut values)?;
     invoke(around, run, m, slots, name, values)
 }

@@ -81,12 +81,7 @@ pub eval-returns-in-NewObject-clause-ends : goal.eval-returns-in-NewObject-claus
 eval-returns-in-NewObject-clause-ends g t c = same_end _ _ _ _ (run_new_object c.args.around.now c.args.e.now _ _ c.in-NewObject.is) c.made_object.ensures.ends
 
 pub eval-returns-in-Call-clause-ends : goal.eval-returns-in-Call-clause-ends
-eval-returns-in-Call-clause-ends g t c =
-    let a = c.args.around.now in
-    let s : Here = frame c.args.slots.now c.args.m.now in
-    same_end _ _ _ _
-    (run_call a c.args.e.now _ _ _ _ c.in-Call.is ∙ ap (λ (xs : List Expr). called (around_of a) (named_at a.facts.now c.args.e.now.id) (option_map (says a) c.in-Call.of) (map (says a) xs) s) (sym c.as_slice-in-Call.ensures))
-    c.call.ensures.ends
+eval-returns-in-Call-clause-ends g t c = same_end _ _ _ _ (run_call c.args.around.now c.args.e.now _ _ _ _ c.in-Call.is) c.call.ensures.ends
 
 pub binary-returns-clause-ends : goal.binary-returns-clause-ends
 binary-returns-clause-ends g t c =
