@@ -16,11 +16,11 @@ use Rattle.px_session.proofs.Kept.{keep_is_not_told}
 use Rattle.px_report.specs.History.{report_text}
 use Rattle.px_main.specs.Run.{entries_of}
 use Rattle.px_main.specs.Solo.{by_source, asked, class_names, heap_of, history_of, serial_of, AreDone, IsReport}
-use Rattle.px_job.specs.declared.job.Call.{Call as JobCall}
-use Rattle.px_job.specs.declared.job.JobFault.{JobFault}
-use Rattle.px_job.specs.declared.job.SplitJob.{SplitJob}
-use Rattle.px_job.specs.Jobs.{job_of}
-use Rattle.px_job.specs.SplitJobs.{split_job_of}
+use Rattle.px_split_job.specs.declared.job.Call.{Call as JobCall}
+use Rattle.px_split_job.specs.declared.job.JobFault.{JobFault}
+use Rattle.px_split_job.specs.declared.job.SplitJob.{SplitJob}
+use Rattle.px_split_job.specs.Jobs.{job_of}
+use Rattle.px_split_job.specs.SplitJobs.{split_job_of}
 use Rattle.px_lower.specs.Programs.{lowered}
 use Rattle.px_main.specs.declared.command.Kind.{Kind}
 use Rattle.px_main.specs.declared.command.Kind.TheVariants.{Run, Solo}

@@ -29,8 +29,8 @@ use Rattle.px_lower.specs.Law.{untraced}
 use Rattle.px_lower.specs.WellFormed.{IsJudged}
 use Rattle.px_lower.proofs.Frames.{keeps_meaning, main_of}
 use Rattle.px_lower.proofs.WellFormed.{kept}
-use Rattle.px_job.specs.declared.job.Call.{Call as JobCall}
-use Rattle.px_job.specs.Fitting.{IsFitting}
+use Rattle.px_split_job.specs.declared.job.Call.{Call as JobCall}
+use Rattle.px_split_job.specs.Fitting.{IsFitting}
 use Rattle.px_session.specs.Serving.{Call, Called, Calling, called_as, by_code, IsServed, AreServed, none, more}
 use Rattle.px_main.specs.Solo.{asked, left_by, by_source}
 use Rattle.px_main.proofs.Callable.{IsTaken, TakesAs, entries_take, all_taken}

@@ -16,8 +16,8 @@ use Rattle.px_code.specs.Sound.{IsNoReference}
 use Rattle.px_wire.specs.Fitting.{HasShortText}
 use Rattle.px_half.proofs.Tellable.{all_at}
 use Rattle.px_pair.specs.Callable.{IsCallable}
-use Rattle.px_job.specs.declared.job.Call.{Call as JobCall}
-use Rattle.px_job.specs.Fitting.{has_type, HaveTypes, IsFitting}
+use Rattle.px_split_job.specs.declared.job.Call.{Call as JobCall}
+use Rattle.px_split_job.specs.Fitting.{has_type, HaveTypes, IsFitting}
 use Rattle.px_lower.specs.WellFormed.{IsLong, IsEntryOf}
 use Rattle.px_lower.specs.Law.{Takes, method_at as source_at}
 use Rattle.px_lower.proofs.FactsOf.{all_append}

@@ -13,8 +13,8 @@ use Rattle.px_pair.specs.Servable.{IsServable}
 use Rattle.px_lower.specs.Programs.{lowered}
 use Rattle.px_lower.specs.WellFormed.{IsJudged}
 use Rattle.px_lower.proofs.WellFormed.{lowered_is_well_formed, entries_are_methods}
-use Rattle.px_job.specs.declared.job.Call.{Call as JobCall}
-use Rattle.px_job.specs.Fitting.{IsFitting}
+use Rattle.px_split_job.specs.declared.job.Call.{Call as JobCall}
+use Rattle.px_split_job.specs.Fitting.{IsFitting}
 use Rattle.px_session.specs.Serving.{Call, AreServed, by_code}
 use Rattle.px_main.specs.Solo.{asked, IsPlanOf, AreDone}
 use Rattle.px_main.proofs.Callable.{IsCall, all_callable}

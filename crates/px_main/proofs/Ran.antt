@@ -5,7 +5,7 @@ use Rattle.px_code.specs.declared.reply.Shown.{Shown}
 use Rattle.px_facts.specs.declared.checked.Checked.{Checked}
 use Rattle.px_interpreter.specs.declared.serial.Call.{Call}
 use Rattle.px_interpreter.specs.Serial.{told_call, serial_of, ran_of}
-use Rattle.px_job.specs.declared.job.Call.{Call as JobCall}
+use Rattle.px_split_job.specs.declared.job.Call.{Call as JobCall}
 use Rattle.px_report.specs.declared.calls.ShownCall.{ShownCall}
 use Rattle.px_report.specs.Lines.{run_text}
 use Rattle.px_main.specs.Run.{Ran, wanted, shown_from, class_names, run_of, text_of}

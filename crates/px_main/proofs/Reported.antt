@@ -8,7 +8,7 @@ use Rattle.px_mean.specs.declared.serial.Session.{Session}
 use Rattle.px_mean.specs.declared.serial.Made.{Made}
 use Rattle.px_mean.specs.Serial.{Served}
 use Rattle.px_plain.specs.Serial.{left}
-use Rattle.px_job.specs.declared.job.SplitJob.{SplitJob}
+use Rattle.px_split_job.specs.declared.job.SplitJob.{SplitJob}
 use Rattle.px_report.specs.History.{report_text}
 use Rattle.px_main.specs.Solo.{class_names, heap_of, history_of, serial_of, AreDone, IsReport}
 

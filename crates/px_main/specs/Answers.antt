@@ -8,13 +8,13 @@ use Rattle.px_facts.specs.declared.checked.Checked.{Checked as WholeChecked}
 use Rattle.px_types.specs.declared.program.Known.{Known}
 use Rattle.px_types.specs.Programs.{judged}
 use Rattle.px_lower.specs.Programs.{lowered}
-use Rattle.px_job.specs.declared.job.Call.{Call as JobCall}
-use Rattle.px_job.specs.declared.job.JobFault.{JobFault}
-use Rattle.px_job.specs.declared.job.JobCode.{JobCode}
-use Rattle.px_job.specs.declared.job.JobCode.TheVariants as code
-use Rattle.px_job.specs.declared.job.SplitJob.{SplitJob}
-use Rattle.px_job.specs.Jobs.{job_of}
-use Rattle.px_job.specs.SplitJobs.{split_job_of}
+use Rattle.px_split_job.specs.declared.job.Call.{Call as JobCall}
+use Rattle.px_split_job.specs.declared.job.JobFault.{JobFault}
+use Rattle.px_split_job.specs.declared.job.JobCode.{JobCode}
+use Rattle.px_split_job.specs.declared.job.JobCode.TheVariants as code
+use Rattle.px_split_job.specs.declared.job.SplitJob.{SplitJob}
+use Rattle.px_split_job.specs.Jobs.{job_of}
+use Rattle.px_split_job.specs.SplitJobs.{split_job_of}
 use Rattle.px_report.specs.Lines.{line}
 use Rattle.px_main.specs.declared.command.Kind.{Kind}
 use Rattle.px_main.specs.declared.command.Kind.TheVariants.{Run, Solo}

@@ -9,7 +9,7 @@ use Rattle.px_facts.specs.declared.checked.Entry.{Entry as EntryFact}
 use Rattle.px_types.specs.declared.checked.Entry.{Entry}
 use Rattle.px_semantics.specs.Program.{source_from}
 use Rattle.px_semantics.specs.Serial.{Call, Stand, serial}
-use Rattle.px_job.specs.declared.job.Call.{Call as JobCall}
+use Rattle.px_split_job.specs.declared.job.Call.{Call as JobCall}
 use Rattle.px_report.specs.declared.calls.ShownCall.{ShownCall}
 use Rattle.px_report.specs.Lines.{run_text}
 

@@ -17,8 +17,8 @@ use Rattle.px_mean.specs.declared.serial.Session.{Session}
 use Rattle.px_mean.specs.Serial.{call_of, first_heap, Called as Meant, Served, serial, Call as Wanted}
 use Rattle.px_mean.specs.Program.{meaning_of, program_fields}
 use Rattle.px_lower.specs.Programs.{lowered}
-use Rattle.px_job.specs.declared.job.Call.{Call as JobCall}
-use Rattle.px_job.specs.declared.job.SplitJob.{SplitJob}
+use Rattle.px_split_job.specs.declared.job.Call.{Call as JobCall}
+use Rattle.px_split_job.specs.declared.job.SplitJob.{SplitJob}
 use Rattle.px_session.specs.Serving.{Call, Called, Calling, AreServed}
 use Rattle.px_report.specs.History.{report_text}
 

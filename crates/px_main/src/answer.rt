@@ -12,7 +12,7 @@ use crate::run::{entries, run};
 use crate::solo::solo;
 use crate::whole::judge_whole;
 use px_facts::Checked as WholeChecked;
-use px_job::{JobCode, JobError, JobFault, read_job, read_split_job};
+use px_split_job::{JobCode, JobError, JobFault, read_job, read_split_job};
 use px_lower::lower;
 use px_report::refusal_text;
 use px_types::Checked;

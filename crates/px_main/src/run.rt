@@ -38,7 +38,7 @@ pub fn entries(alloc: Global, facts: &[px_facts::Entry]) -> Result<Vec<Entry>, A
     Ok(all)
 }
 
-fn wanted_call(call: &px_job::Call) -> Call<'_>
+fn wanted_call(call: &px_split_job::Call) -> Call<'_>
     ensures { told_call result ≡ wanted call.now }
 {
     Call {
@@ -48,7 +48,7 @@ fn wanted_call(call: &px_job::Call) -> Call<'_>
     }
 }
 
-fn wanted_calls(alloc: Global, calls: &[px_job::Call]) -> Result<Vec<Call<'_>>, AllocError>
+fn wanted_calls(alloc: Global, calls: &[px_split_job::Call]) -> Result<Vec<Call<'_>>, AllocError>
     ensures { IfOk result (λ all. map told_call all.items ≡ map wanted calls.now) }
 {
     let mut all = Vec::new(alloc);
@@ -88,7 +88,7 @@ fn class_names(alloc: Global, classes: &[Class]) -> Result<Vec<Text>, AllocError
 }
 
 /// The text of the serial run of the calls.
-pub fn run(alloc: Global, checked: &Checked, calls: &[px_job::Call]) -> Result<Vec<u8>, AllocError>
+pub fn run(alloc: Global, checked: &Checked, calls: &[px_split_job::Call]) -> Result<Vec<u8>, AllocError>
     ensures { IfOk result (λ text. text.items ≡ text_of checked.now (run_of checked.now calls.now)) }
 {
     let wanted = wanted_calls(alloc, calls)?;

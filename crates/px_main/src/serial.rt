@@ -60,7 +60,7 @@ pub fn method_of(entries: &[Entry], entry: usize) -> u16
 fn wanted_calls<'a>(
     alloc: Global,
     entries: &[Entry],
-    calls: &'a [px_job::Call],
+    calls: &'a [px_split_job::Call],
 ) -> Result<Vec<px_plain::Call<'a>>, AllocError>
     ensures { IfOk result (λ all. map plain_wanted all.items ≡ map (wanted entries.now) calls.now) }
 {
@@ -91,7 +91,7 @@ pub fn class_names(alloc: Global, classes: &[Class]) -> Result<Vec<Text>, AllocE
 pub fn run_serial(
     alloc: Global,
     checked: &Checked,
-    calls: &[px_job::Call],
+    calls: &[px_split_job::Call],
 ) -> Result<Served, AllocError>
     requires { IsJudged checked.now }
     ensures { IfOk result (λ served. serial_of checked.now calls.now ≡ left served.made.items served.sessions.items) }

@@ -5,14 +5,14 @@ ghost use Rattle.px_code.specs.declared.plan.Plan.{Plan as PlanData};
 ghost use Rattle.px_code.specs.WellFormed.{HasFewSlots, IsWellFormed};
 ghost use Rattle.px_lower.specs.Programs.{lowered};
 ghost use Rattle.px_lower.specs.WellFormed.{IsJudged};
-ghost use Rattle.px_job.specs.Fitting.{IsFitting};
+ghost use Rattle.px_split_job.specs.Fitting.{IsFitting};
 ghost use Rattle.px_session.specs.Wanted.{wanted};
 ghost use Rattle.px_main.specs.Solo.{asked, heap_of, history_of, IsPlanOf, AreDone, IsReport};
 
 use crate::serial::{class_names, method_of, run_serial};
 use px_code::{Code, Done, Event, Placement, Plans};
 use px_compile::compile;
-use px_job::{Call, Part, SplitJob};
+use px_split_job::{Call, Part, SplitJob};
 use px_mean::Session;
 use px_report::report_text;
 use px_session::{Wanted, serve};

@@ -1,10 +1,10 @@
 use Rattle.std.proofs.Common.{List, Result, IfOk, subst}
 use Rattle.std.specs.List.{AllByRecursion}
 use Rattle.px_types.specs.declared.checked.Entry.{Entry}
-use Rattle.px_job.specs.declared.job.JobFault.{JobFault}
-use Rattle.px_job.specs.declared.job.SplitJob.{SplitJob}
-use Rattle.px_job.specs.Fitting.{IsFitting, FitsSplit}
-use Rattle.px_job.proofs.FittingParts.{split_jobs_fit}
+use Rattle.px_split_job.specs.declared.job.JobFault.{JobFault}
+use Rattle.px_split_job.specs.declared.job.SplitJob.{SplitJob}
+use Rattle.px_split_job.specs.Fitting.{IsFitting, FitsSplit}
+use Rattle.px_split_job.proofs.FittingParts.{split_jobs_fit}
 use Rattle.px_main.proofs.answer.answer_solo.Goals as goal
 
 pub solo-requires-clause-calls : goal.solo-requires-clause-calls

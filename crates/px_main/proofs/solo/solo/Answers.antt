@@ -1,6 +1,6 @@
 use Rattle.std.proofs.Common.{◌≡◌, ℕ, List, [], ◌∷◌, map, Vec, Global, IfOk, sym, ap, ◌∙◌, subst}
 use Rattle.px_lex.specs.declared.tree.Class.{Class}
-use Rattle.px_job.specs.declared.job.Call.{Call}
+use Rattle.px_split_job.specs.declared.job.Call.{Call}
 use Rattle.px_report.specs.History.{report_text}
 use Rattle.px_main.specs.Solo.{serial_of, AreDone}
 use Rattle.px_main.proofs.Reported.{reported}

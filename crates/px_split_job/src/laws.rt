@@ -1,0 +1,25 @@
+//! Laws of what the reader's contract says.
+
+ghost use Rattle.px_split_job.specs.Fitting.{CallsFit, SplitJobsFit};
+ghost use Rattle.px_split_job.specs.Filing.{LinesAreFiled};
+ghost use Rattle.px_split_job.specs.Spelling.{WordsAreSpelled};
+
+/// The lines that are read are those that stand in the file.
+pub fn lines_are_filed()
+    ensures { LinesAreFiled }
+{}
+
+/// The words of a line are those that are spelled in it.
+pub fn words_are_spelled()
+    ensures { WordsAreSpelled }
+{}
+
+/// Each call of a job is of an entry that there is, and has arguments of its parameters' types.
+pub fn calls_fit()
+    ensures { CallsFit }
+{}
+
+/// The same of a job with a part, which has one side for each node of the program.
+pub fn split_jobs_fit()
+    ensures { SplitJobsFit }
+{}
