@@ -3,7 +3,7 @@ use Rattle.std.specs.Prelude.{Bool, true, false, nat_eq}
 use Rattle.px_facts.specs.declared.types.Element.{Element}
 use Rattle.px_facts.specs.declared.types.Element.TheVariants as element
 use Rattle.px_facts.specs.declared.types.Ty.{Ty}
-use Rattle.px_facts.specs.declared.types.Ty.TheVariants.{Unknown, Void, Null, Int, Long, Boolean, Text, Object, Array}
+use Rattle.px_facts.specs.declared.types.Ty.TheVariants.{Unknown, Void, Null, Int, Long, Boolean, Text, Object, Array, ResultSet}
 
 abbrev pub is_unknown : Ty → Bool
 is_unknown Unknown = true
@@ -30,6 +30,10 @@ abbrev pub is_text : Ty → Bool
 is_text Text = true
 is_text _ = false
 
+abbrev pub is_rows : Ty → Bool
+is_rows ResultSet = true
+is_rows _ = false
+
 abbrev pub is_array : Ty → Bool
 is_array (Array e) = true
 is_array _ = false
@@ -39,6 +43,7 @@ abbrev pub is_reference : Ty → Bool
 is_reference Text = true
 is_reference (Object class) = true
 is_reference (Array e) = true
+is_reference ResultSet = true
 is_reference _ = false
 
 abbrev pub same_element : Element → Element → Bool
@@ -59,6 +64,7 @@ same Boolean Boolean = true
 same Text Text = true
 same (Object a) (Object b) = nat_eq a b
 same (Array a) (Array b) = same_element a b
+same ResultSet ResultSet = true
 same _ _ = false
 
 -- A value fits a type that it has, an int fits a long, and null fits a reference type (JLS 5.2). A void call is no value.

@@ -1,7 +1,8 @@
 //! What is known of a program that keeps the type rules.
+use crate::operation::Operation;
 use crate::types::Ty;
 use px_tree::Program;
-use px_value::Text;
+use px_value::{Schema, Text};
 use sqlite_items::Items;
 
 /// What an expression names or makes, or the local that a statement writes.
@@ -24,6 +25,19 @@ pub enum Named {
     TextLength,
     /// A String's `equals(s)`.
     TextEquals,
+    /// `Db`, before `.query(` or `.update(`.
+    Database,
+    /// `Db.query(..)`. The calls of `Db` have numbers over the whole program, from 1; the rows that
+    /// it makes have a site, which is numbered with those of `new`.
+    Query { number: u16, site: u16 },
+    /// `Db.update(..)`, which is numbered with the queries.
+    Update { number: u16 },
+    /// A ResultSet's `next()`.
+    Next,
+    /// A ResultSet's `getLong(i)`.
+    GetLong,
+    /// A ResultSet's `getString(i)`.
+    GetString,
 }
 
 /// What is known of a statement or an expression.
@@ -79,6 +93,8 @@ pub struct Facts {
     pub classes: Items<ClassFact>,
     /// In the order of the file, which is that of their numbers.
     pub methods: Items<MethodFact>,
+    /// By the number of a call of `Db`, from 1.
+    pub operations: Items<Operation>,
     pub main: Main,
 }
 
@@ -86,5 +102,7 @@ pub struct Facts {
 #[derive(Drop)]
 pub struct Checked {
     pub program: Program,
+    /// The tables that it declares.
+    pub schema: Schema,
     pub facts: Facts,
 }

@@ -27,6 +27,8 @@ pub enum Ty {
     /// An object of a class, by the class's place in the file, from 0.
     Object(usize),
     Array(Element),
+    /// The rows that a query gave.
+    ResultSet,
 }
 
 impl Ty {
@@ -66,6 +68,12 @@ impl Ty {
         matches!(self, Ty::Text)
     }
 
+    pub fn is_rows(self) -> bool
+        ensures { result ≡ types.is_rows self }
+    {
+        matches!(self, Ty::ResultSet)
+    }
+
     pub fn is_array(self) -> bool
         ensures { result ≡ types.is_array self }
     {
@@ -75,7 +83,10 @@ impl Ty {
     pub fn is_reference(self) -> bool
         ensures { result ≡ types.is_reference self }
     {
-        matches!(self, Ty::Text | Ty::Object(_) | Ty::Array(_))
+        matches!(
+            self,
+            Ty::Text | Ty::Object(_) | Ty::Array(_) | Ty::ResultSet
+        )
     }
 
     pub fn is_printable(self) -> bool
@@ -136,7 +147,8 @@ pub fn same(a: Ty, b: Ty) -> bool
         | (Ty::Int, Ty::Int)
         | (Ty::Long, Ty::Long)
         | (Ty::Boolean, Ty::Boolean)
-        | (Ty::Text, Ty::Text) => true,
+        | (Ty::Text, Ty::Text)
+        | (Ty::ResultSet, Ty::ResultSet) => true,
         _ => false,
     }
 }
