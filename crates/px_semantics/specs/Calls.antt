@@ -9,6 +9,7 @@ use Rattle.px_facts.specs.declared.checked.MethodFact.{MethodFact}
 use Rattle.px_facts.specs.declared.checked.Facts.{Facts}
 use Rattle.px_semantics.specs.Run.{There}
 use Rattle.px_semantics.specs.Facts.{by_number, default_of}
+use Rattle.px_semantics.specs.Operations.{Ask}
 use Rattle.px_semantics.specs.Expressions.{Around, Calls}
 use Rattle.px_semantics.specs.Statements.{done_by}
 
@@ -37,6 +38,6 @@ enters P (Some method) (Some fact) values = λ s. leaves_frame (done_by P fact.r
 enters P _ _ values = pure None
 
 -- calls with at most so many frames
-unfoldable pub calls_in : {Q W : Type 0} → Source → ℕ → Calls Q W
-calls_in P zero method values = throw StackOverflowError
-calls_in P (suc n) method values = enters (record { facts = P.facts; calls = calls_in P n }) (by_number P.methods method) (by_number P.facts.methods method) values
+unfoldable pub calls_in : {Q W : Type 0} → Ask Q W → Source → ℕ → Calls Q W
+calls_in ask P zero method values = throw StackOverflowError
+calls_in ask P (suc n) method values = enters (record { facts = P.facts; ask = ask; calls = calls_in ask P n }) (by_number P.methods method) (by_number P.facts.methods method) values

@@ -12,6 +12,7 @@ use Rattle.px_code.specs.declared.reply.Reply.TheVariants as reply
 use Rattle.px_semantics.specs.Run.{Shared}
 use Rattle.px_semantics.specs.Facts.{default_of, fields_of}
 use Rattle.px_semantics.specs.Effects.{fresh_object}
+use Rattle.px_semantics.specs.Operations.{Ask}
 use Rattle.px_semantics.specs.Calls.{Source, calls_in}
 
 -- a session's first heap: one object of Main, before anything is written
@@ -22,8 +23,8 @@ unfoldable pub all_frames : ℕ
 all_frames = 200
 
 -- the run of a method as an entry: object 0 of the heap is `this`
-abbrev pub exec : {Q W : Type 0} → Source → List Object → W → ℕ → List Value → Outcome Q (Shared W) (Option Value)
-exec P heap world method args = calls_in P all_frames method (Ref 0 ∷ args) (record { heap = heap; world = world; prints = []; turns = 0 })
+abbrev pub exec : {Q W : Type 0} → Ask Q W → Source → List Object → W → ℕ → List Value → Outcome Q (Shared W) (Option Value)
+exec ask P heap world method args = calls_in ask P all_frames method (Ref 0 ∷ args) (record { heap = heap; world = world; prints = []; turns = 0; operations = 0 })
 
 -- what an entry call leaves
 pub record Called (W : Type 0) : Type 0 where
@@ -44,10 +45,10 @@ ended heap world (Throws t s) = record { reply = reply.Threw t; prints = []; hea
 ended heap world (Asks q) = absurd q
 
 -- an entry that isn't there does nothing
-abbrev pub called_entry : {W : Type 0} → Source → List Object → W → Option Entry → List Value → Called W
-called_entry P heap world None args = record { reply = reply.Void; prints = []; heap = heap; world = world }
-called_entry P heap world (Some entry) args = ended heap world (exec P heap world entry.method args)
+abbrev pub called_entry : {W : Type 0} → Ask ⊥ W → Source → List Object → W → Option Entry → List Value → Called W
+called_entry ask P heap world None args = record { reply = reply.Void; prints = []; heap = heap; world = world }
+called_entry ask P heap world (Some entry) args = ended heap world (exec ask P heap world entry.method args)
 
 -- entries go by their places, from 0
-unfoldable pub call_of : {W : Type 0} → Source → List Object → W → ℕ → List Value → Called W
-call_of P heap world entry args = called_entry P heap world (slice_get P.facts.main.entries entry) args
+unfoldable pub call_of : {W : Type 0} → Ask ⊥ W → Source → List Object → W → ℕ → List Value → Called W
+call_of ask P heap world entry args = called_entry ask P heap world (slice_get P.facts.main.entries entry) args

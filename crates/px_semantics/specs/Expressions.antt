@@ -1,5 +1,5 @@
 -- The meaning of expressions, by structure (JLS 15).
-use Rattle.std.specs.Prelude.{ℕ, ◌+◌, ◌-◌, ◌*◌, Bool, true, false, not, List, [], ◌∷◌, Option, Some, None, unwrap_or, slice_get, slice_index_or, slice_set, pos, Ok, if◌then◌else◌}
+use Rattle.std.specs.Prelude.{ℕ, ◌+◌, ◌-◌, ◌*◌, Bool, true, false, not, List, [], ◌∷◌, drop, Option, Some, None, unwrap_or, slice_get, slice_index_or, slice_set, pos, Ok, if◌then◌else◌}
 use Rattle.std.specs.Int.{int_wrap, w32, w64}
 use Rattle.px_value.specs.declared.value.Value.{Value}
 use Rattle.px_value.specs.declared.value.Value.TheVariants.{Int, Long, Bool as Truth, Text, Null}
@@ -18,16 +18,18 @@ use Rattle.px_facts.specs.declared.checked.Named.{Named}
 use Rattle.px_facts.specs.declared.checked.Named.TheVariants as named
 use Rattle.px_facts.specs.declared.checked.Facts.{Facts}
 use Rattle.px_semantics.specs.Run.{with_slots, Here, There, gather, came_to, turn}
-use Rattle.px_semantics.specs.Facts.{type_at, named_at, fields_of, params_of, op_of, prefix_of}
+use Rattle.px_semantics.specs.Facts.{type_at, named_at, by_number, fields_of, params_of, op_of, prefix_of}
 use Rattle.px_semantics.specs.Effects.{reference, get_field, put_field, array_length, load, store, new_object, new_array}
+use Rattle.px_semantics.specs.Operations.{Ask, query, update, next, get_column, long_in, text_in}
 
 -- what a call of a method does, by its number, of the receiver and the arguments
 abbrev pub Calls : Type 0 → Type 0 → Type 0
 Calls Q W = ℕ → List Value → There Q W (Option Value)
 
--- what stands around an expression: the program's facts, and what its calls do
+-- what stands around an expression: the program's facts, how the tables answer, and what calls do
 pub record Around (Q W : Type 0) : Type 0 where
   pub facts : Facts
+  pub ask : Ask Q W
   pub calls : Calls Q W
 
 -- What an expression means: its static type, its value, and the assignment to it of a value of some type.
@@ -114,20 +116,34 @@ value_at values place = unwrap_or (slice_get values place) Null
 abbrev pub call_method : {Q W : Type 0} → Calls Q W → ℕ → List Value → There Q W (Option Value)
 call_method calls method values = came_to (reference (value_at values 0)) >>= (λ _. turn >>= (λ _. calls method values))
 
--- a method of a class, or of String
-abbrev pub invoke : {Q W : Type 0} → Calls Q W → Named → List Value → Here Q W Value
-invoke calls (named.Method method) values = on_shared (call_method calls method values) >>= result_value
-invoke calls named.TextLength values = came_to (apply op.Length (value_at values 0) (value_at values 0))
-invoke calls named.TextEquals values = came_to (apply op.Equals (value_at values 0) (value_at values 1))
-invoke calls _ values = pure Null
+-- a method of a class, of String, of `Db` or of a ResultSet
+abbrev pub invoke : {Q W : Type 0} → Around Q W → Named → List Value → Here Q W Value
+invoke P (named.Method method) values = on_shared (call_method P.calls method values) >>= result_value
+invoke P named.TextLength values = came_to (apply op.Length (value_at values 0) (value_at values 0))
+invoke P named.TextEquals values = came_to (apply op.Equals (value_at values 0) (value_at values 1))
+invoke P (named.Query number site) values = on_shared (query P.ask number site (by_number P.facts.operations number) values)
+invoke P (named.Update number) values = on_shared (update P.ask number (by_number P.facts.operations number) values)
+invoke P named.Next values = on_shared (next P.facts (value_at values 0))
+invoke P named.GetLong values = on_shared (get_column P.facts long_in (value_at values 0) (value_at values 1))
+invoke P named.GetString values = on_shared (get_column P.facts text_in (value_at values 0) (value_at values 1))
+invoke P _ values = pure Null
 
--- a call on an object: the arguments from the left (JLS 15.12.4.2), then the method
-abbrev pub called_on : {Q W : Type 0} → Around Q W → Named → List (Meant Q W) → Value → Here Q W Value
-called_on P name args object = gather (object ∷ []) (fitted (params_of P.facts name) 0 args) >>= invoke P.calls name
+abbrev pub is_operation : Named → Bool
+is_operation (named.Query number site) = true
+is_operation (named.Update number) = true
+is_operation _ = false
 
--- the receiver first (JLS 15.12.4.1)
+-- `Db` is no value
+abbrev pub received : {Q W : Type 0} → Named → Option (Meant Q W) → List (Here Q W Value)
+received name of = if is_operation name then [] else receiver of ∷ []
+
+-- nor is the text of its statement
+abbrev pub operands : {A : Type 0} → Named → List A → List A
+operands name args = if is_operation name then drop 1 args else args
+
+-- the receiver first (JLS 15.12.4.1), then the arguments from the left (JLS 15.12.4.2), then the method
 abbrev pub called : {Q W : Type 0} → Around Q W → Named → Option (Meant Q W) → List (Meant Q W) → Here Q W Value
-called P name of args = receiver of >>= called_on P name args
+called P name of args = gather [] (received name of) >>= (λ there. gather there (fitted (params_of P.facts name) 0 (operands name args)) >>= invoke P name)
 
 -- ---- `new`
 

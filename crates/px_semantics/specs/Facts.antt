@@ -16,6 +16,7 @@ use Rattle.px_facts.specs.declared.checked.Fact.{Fact}
 use Rattle.px_facts.specs.declared.checked.ClassFact.{ClassFact}
 use Rattle.px_facts.specs.declared.checked.MethodFact.{MethodFact}
 use Rattle.px_facts.specs.declared.checked.Facts.{Facts}
+use Rattle.px_facts.specs.declared.operation.Operation.{Operation}
 
 -- ---- statements and expressions
 
@@ -54,9 +55,16 @@ abbrev pub params_in : Option MethodFact → List Ty
 params_in None = []
 params_in (Some method) = method.params
 
+-- calls of `Db` are numbered from 1
+abbrev pub operands_in : Option Operation → List Ty
+operands_in None = []
+operands_in (Some operation) = operation.params
+
 -- the types that arguments are wanted to have
 abbrev pub params_of : Facts → Named → List Ty
 params_of F (named.Method m) = params_in (by_number F.methods m)
+params_of F (named.Query number site) = operands_in (by_number F.operations number)
+params_of F (named.Update number) = operands_in (by_number F.operations number)
 params_of F _ = []
 
 -- ---- types

@@ -1,6 +1,7 @@
 pub mod Run
 pub mod Facts
 pub mod Effects
+pub mod Operations
 pub mod Expressions
 pub mod Statements
 pub mod Calls

@@ -14,6 +14,8 @@ pub record Shared (W : Type 0) : Type 0 where
   pub prints : List (List ℕ)
   -- the tests of loops and the calls of methods that were made
   pub turns : ℕ
+  -- what was asked of the tables
+  pub operations : ℕ
 
 -- a frame has its locals by slot
 abbrev pub Frame : Type 0 → Type 0

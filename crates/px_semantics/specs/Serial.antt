@@ -4,6 +4,7 @@ use Rattle.px_value.specs.declared.value.Value.{Value}
 use Rattle.px_value.specs.declared.object.Object.{Object}
 use Rattle.px_code.specs.declared.reply.Reply.TheVariants as reply
 use Rattle.px_code.specs.declared.reply.Shown.{Shown}
+use Rattle.px_semantics.specs.Operations.{Ask}
 use Rattle.px_semantics.specs.Facts.{by_number}
 use Rattle.px_semantics.specs.Calls.{Source}
 use Rattle.px_semantics.specs.Entry.{Called, call_of, first_heap}
@@ -31,24 +32,24 @@ abbrev pub stand_after : {W : Type 0} → Call → Called W → Stand W → Stan
 stand_after c called stand = record { heaps = with_heap stand.heaps c.session called.heap; world = called.world }
 
 -- a call by the session that has this heap; a session that isn't there does nothing
-abbrev pub call_by : {W : Type 0} → Source → Call → Option (List Object) → Stand W → Shown × Stand W
-call_by P c None stand = (record { reply = reply.Void; prints = [] }, stand)
-call_by P c (Some heap) stand = let called = call_of P heap stand.world c.entry c.args in (shown_of called, stand_after c called stand)
+abbrev pub call_by : {W : Type 0} → Ask ⊥ W → Source → Call → Option (List Object) → Stand W → Shown × Stand W
+call_by ask P c None stand = (record { reply = reply.Void; prints = [] }, stand)
+call_by ask P c (Some heap) stand = let called = call_of ask P heap stand.world c.entry c.args in (shown_of called, stand_after c called stand)
 
-abbrev pub one_call : {W : Type 0} → Source → Call → Stand W → Shown × Stand W
-one_call P c stand = call_by P c (by_number stand.heaps c.session) stand
+abbrev pub one_call : {W : Type 0} → Ask ⊥ W → Source → Call → Stand W → Shown × Stand W
+one_call ask P c stand = call_by ask P c (by_number stand.heaps c.session) stand
 
 -- the calls in order
-unfoldable pub serves : {W : Type 0} → Source → List Call → Stand W → List Shown × Stand W
-serves P [] stand = ([], stand)
-serves P (c ∷ calls) stand =
-    let one = one_call P c stand in
-    let rest = serves P calls one.1 in
+unfoldable pub serves : {W : Type 0} → Ask ⊥ W → Source → List Call → Stand W → List Shown × Stand W
+serves ask P [] stand = ([], stand)
+serves ask P (c ∷ calls) stand =
+    let one = one_call ask P c stand in
+    let rest = serves ask P calls one.1 in
     (one.0 ∷ rest.0, rest.1)
 
 -- so many sessions that have made no call
 abbrev pub first_stand : {W : Type 0} → Source → ℕ → W → Stand W
 first_stand P sessions world = record { heaps = replicate sessions (first_heap P.facts); world = world }
 
-abbrev pub serial : {W : Type 0} → Source → ℕ → W → List Call → List Shown × Stand W
-serial P sessions world calls = serves P calls (first_stand P sessions world)
+abbrev pub serial : {W : Type 0} → Ask ⊥ W → Source → ℕ → W → List Call → List Shown × Stand W
+serial ask P sessions world calls = serves ask P calls (first_stand P sessions world)
