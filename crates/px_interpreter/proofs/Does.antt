@@ -1,5 +1,5 @@
 -- What each form of a statement does when it is run.
-use Rattle.std.proofs.Common.{◌≡◌, ℕ, List, map, Option, option_map, unwrap_or, slice_get, sym, ap, ◌∙◌}
+use Rattle.std.proofs.Common.{◌≡◌, ℕ, List, map, Option, Some, option_map, unwrap_or, slice_get, sym, ap, ◌∙◌}
 use Rattle.px_value.specs.declared.value.Value.{Value}
 use Rattle.px_value.specs.declared.value.Value.TheVariants.{Null}
 use Rattle.px_value.specs.declared.op.Op.{Op}
@@ -63,7 +63,7 @@ module _ (a : Around) where
   pub does_while : (x : Stmt) (s : Here) (e : Expr) (b b' : Stmt) → x.form ≡ While e b → b' ≡ b → does a x s ≡ loop (says a e).run (does a b') all_turns s
   does_while x s e b b' h u = ap (at_s s) (forms.done_while ⊥ (Unit {0}) (around_of a) a.result x e b b' h u)
 
-  pub does_for : (x : Stmt) (s : Here) (f f' : Stmt) (e : Expr) (l l' b b' : Stmt) → x.form ≡ For f e l b → f' ≡ f → l' ≡ l → b' ≡ b → does a x s ≡ looped a f' e l' b' s
+  pub does_for : (x : Stmt) (s : Here) (f f' : Stmt) (e : Expr) (l l' b b' : Stmt) → x.form ≡ For f e l b → f' ≡ f → l' ≡ l → b' ≡ b → does a x s ≡ looped a (Some f') e (Some l') b' s
   does_for x s f f' e l l' b b' h u v w = ap (at_s s) (forms.done_for ⊥ (Unit {0}) (around_of a) a.result x f f' e l l' b b' h u v w)
 
   pub does_return : (x : Stmt) (s : Here) (e : Option Expr) → x.form ≡ Return e → does a x s ≡ returned a.result (option_map (says a) e) s

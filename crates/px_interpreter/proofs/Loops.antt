@@ -1,8 +1,8 @@
 -- A loop, turn by turn.
-use Rattle.std.proofs.Common.{◌≡◌, ℕ, zero, suc, ◌+◌, ◌≤◌, ◌<◌, Bool, true, false, Option, option_map, if◌then◌else◌, refl, sym, ◌∙◌, arith}
+use Rattle.std.proofs.Common.{◌≡◌, ℕ, zero, suc, Some, None, ◌+◌, ◌≤◌, ◌<◌, Bool, true, false, Option, option_map, if◌then◌else◌, refl, sym, ◌∙◌, arith}
 use Rattle.px_value.specs.declared.value.Value.{Value}
 use Rattle.px_value.specs.declared.thrown.Thrown.TheVariants.{TurnsOut}
-use Rattle.px_value.specs.Outcome.{Gives, Throws, Asks, Run, then_run, ◌>>=◌, pure, throw, on_shared, Flow, Goes, goes_on}
+use Rattle.px_value.specs.Outcome.{Gives, Throws, Asks, Run, then_run, ◌>>=◌, pure, throw, on_shared, Flow, Goes, Returns, goes_on}
 use Rattle.px_semantics.specs.Run.{turn, max_turns}
 use Rattle.px_semantics.specs.Expressions.{is_true}
 use Rattle.px_semantics.specs.Statements.{loop, or_goes}
@@ -10,7 +10,7 @@ use Rattle.px_tree.specs.declared.Expr.{Expr}
 use Rattle.px_tree.specs.declared.Stmt.{Stmt}
 use Rattle.px_interpreter.specs.declared.around.Around.{Around}
 use Rattle.px_interpreter.specs.View.{Here, Ending, says, does}
-use Rattle.px_interpreter.specs.Parts.{Part, holds, chosen}
+use Rattle.px_interpreter.specs.Parts.{Part, holds, chosen, round, then_last}
 
 in_turn : {A B C : Type 0} (o : Ending Here A) (f : A → Run ⊥ Here B) (g : B → Run ⊥ Here C) → then_run (then_run o f) g ≡ then_run o (λ a s. then_run (f a s) g)
 in_turn (Gives a s) f g = refl
@@ -54,3 +54,16 @@ again_true test body n k b s e f = (λ i. again test body (e i) (f i) s)
 -- an `if` goes on with the truth of its condition
 pub chosen_is : (a : Around) (test : Expr) (branch : Stmt) (other : Option Stmt) (s : Here) → chosen a test branch other s ≡ then_run (holds a test s) (λ b. if b then does a branch else or_goes (option_map (does a) other))
 chosen_is a test branch other s = sym (in_turn ((says a test).run s) (λ v. pure (is_true v)) (λ b. if b then does a branch else or_goes (option_map (does a) other)))
+
+-- ---- turns
+
+after_flow : (o : Ending Here (Flow Value)) (f g : Part (Flow Value)) → then_run (then_run o (goes_on f)) (goes_on g) ≡ then_run o (goes_on (λ s. then_run (f s) (goes_on g)))
+after_flow (Gives Goes s) f g = refl
+after_flow (Gives (Returns v) s) f g = refl
+after_flow (Throws t s) f g = refl
+after_flow (Asks q) f g = refl
+
+-- a turn is its body, and then what stands before the next one
+pub round_is : (a : Around) (body : Stmt) (last : Option Stmt) (g : Part (Flow Value)) (s : Here) → then_run (round a body last s) (goes_on g) ≡ then_run (does a body s) (goes_on (λ t. then_run (then_last a last t) (goes_on g)))
+round_is a body None g s = refl
+round_is a body (Some l) g s = after_flow (does a body s) (does a l) g

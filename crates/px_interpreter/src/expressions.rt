@@ -1,5 +1,5 @@
 //! Expressions, run from the syntax tree.
-ghost use Rattle.std.specs.Prelude.{◌≡◌, ◌≤◌, ℕ, map, option_map, slice_get, slice_index_or, unwrap_or, IfOk};
+ghost use Rattle.std.specs.Prelude.{◌≡◌, ◌≤◌, ◌∷◌, [], ℕ, map, option_map, slice_get, slice_index_or, unwrap_or, IfOk};
 ghost use Rattle.px_value.specs.declared.value.Value.TheVariants.{Null};
 ghost use Rattle.px_value.specs.Outcome.{then_run};
 ghost use Rattle.px_value.specs.Operators.{apply};
@@ -8,7 +8,7 @@ ghost use Rattle.px_semantics.specs.Facts.{type_at as mean_type_at, named_at as 
 ghost use Rattle.px_semantics.specs.Effects.{reference as mean_reference};
 ghost use Rattle.px_semantics.specs.Expressions as expressions;
 ghost use Rattle.px_interpreter.specs.View.{frame, shared_of, around_of, says, Ends, EndsWith, Came, Keeps, IfKept, CallEnds};
-ghost use Rattle.px_interpreter.specs.Parts.{element_value};
+ghost use Rattle.px_interpreter.specs.Parts.{element_value, after_left};
 
 use crate::around::Around;
 use crate::effects::{copied, reference};
@@ -20,7 +20,7 @@ use px_facts::{Named, Ty};
 use px_ops::Op;
 use px_tree::{Expr, ExprForm, Sign};
 use px_value::{Thrown, Value, Values};
-use sqlite_items::Boxed;
+use sqlite_items::{Boxed, Items};
 use std::alloc::{AllocError, Global};
 
 /// The value in a slot, or null where there is none.
@@ -31,12 +31,19 @@ pub fn slot_value(alloc: Global, slots: &Values, slot: u16) -> Result<Value, All
     copied(alloc, slots.get(usize::from(slot)))
 }
 
+#[inline(never)]
+fn this_value(around: &Around, m: &Machine, slots: &Values) -> Result<Value, Stop>
+    ensures { Ends (frame slots.now m.now) result (expressions.this_value (frame slots.now m.now)) }
+{
+    Ok(slot_value(around.alloc, slots, 0)?)
+}
+
 // The value of a bare name.
 #[inline(never)]
-fn name_value(around: &Around, m: &Machine, slots: &Values, name: Named) -> Result<Value, Stop>
-    ensures { Ends (frame slots.now m.now) result (expressions.name_value name (frame slots.now m.now)) }
+fn name_value(around: &Around, m: &Machine, slots: &Values, id: u32) -> Result<Value, Stop>
+    ensures { Ends (frame slots.now m.now) result (expressions.name_value (mean_named_at around.now.facts.now id) (frame slots.now m.now)) }
 {
-    match name {
+    match named_at(around.facts, id) {
         Named::Local(slot) => Ok(slot_value(around.alloc, slots, slot)?),
         Named::Field { class: _, place } => {
             let object = slot_value(around.alloc, slots, 0)?;
@@ -65,12 +72,12 @@ fn member_value(
 }
 
 #[inline(never)]
-fn made_object(around: &Around, m: &mut Machine, slots: &Values, name: Named) -> Result<Value, Stop>
-    ensures ends { Ends (frame slots.now m.new) result (expressions.made_object around.now.facts.now name (frame slots.now m.old)) }
+fn made_object(around: &Around, m: &mut Machine, slots: &Values, id: u32) -> Result<Value, Stop>
+    ensures ends { Ends (frame slots.now m.new) result (expressions.made_object around.now.facts.now (mean_named_at around.now.facts.now id) (frame slots.now m.old)) }
     ensures kept { IfKept result (Keeps m.old m.new) }
     ensures turns { m.old.turns ≤ m.new.turns }
 {
-    match name {
+    match named_at(around.facts, id) {
         Named::NewObject { class, site } => m.new_object(
             around.alloc,
             class,
@@ -207,6 +214,22 @@ fn invoke<F: Fn(&mut Machine, u16, Values) -> Result<Option<Value>, Stop>>(
     }
 }
 
+// What the values of both operands come to, whose numbers are known.
+#[inline(never)]
+fn joined(
+    around: &Around,
+    sign: Sign,
+    left: u32,
+    right: u32,
+    a: &Value,
+    b: Value,
+) -> Result<Value, Stop>
+    ensures { Came result (expressions.combined sign (mean_type_at around.now.facts.now left) (mean_type_at around.now.facts.now right) a.now b) }
+{
+    let types = (type_at(around.facts, left), type_at(around.facts, right));
+    combined(around.alloc, sign, types, a, b)
+}
+
 /// The value of an expression.
 #[cycle(eval)]
 pub fn eval<F: Fn(&mut Machine, u16, Values) -> Result<Option<Value>, Stop>>(
@@ -224,12 +247,12 @@ pub fn eval<F: Fn(&mut Machine, u16, Values) -> Result<Option<Value>, Stop>>(
 {
     match &e.form {
         ExprForm::Number { digits, long } => Ok(literal(digits.as_slice(), *long)),
-        ExprForm::Str(bytes) => Ok(text(around.alloc, bytes.as_slice())?),
+        ExprForm::Str(bytes) => text(around.alloc, bytes.as_slice()),
         ExprForm::True => Ok(Value::Bool(true)),
         ExprForm::False => Ok(Value::Bool(false)),
         ExprForm::Null => Ok(Value::Null),
-        ExprForm::This => Ok(slot_value(around.alloc, slots, 0)?),
-        ExprForm::Name(_) => name_value(around, m, slots, named_at(around.facts, e.id)),
+        ExprForm::This => this_value(around, m, slots),
+        ExprForm::Name(_) => name_value(around, m, slots, e.id),
         ExprForm::Group(inner) => eval(around, run, m, slots, inner.get()),
         ExprForm::Field { of, name: _ } => {
             field(
@@ -242,19 +265,8 @@ pub fn eval<F: Fn(&mut Machine, u16, Values) -> Result<Option<Value>, Stop>>(
             )
         }
         ExprForm::Index { of, index } => element(around, run, m, slots, of.get(), index.get()),
-        ExprForm::Call { of, name: _, args } => {
-            let object = receiver(around, run, m, slots, of)?;
-            call(
-                around,
-                run,
-                m,
-                slots,
-                args.as_slice(),
-                named_at(around.facts, e.id),
-                object,
-            )
-        }
-        ExprForm::NewObject(_) => made_object(around, m, slots, named_at(around.facts, e.id)),
+        ExprForm::Call { of, name: _, args } => { call(around, run, m, slots, args, of, e.id) }
+        ExprForm::NewObject(_) => made_object(around, m, slots, e.id),
         ExprForm::NewArray { base: _, length } => {
             array(around, run, m, slots, length.get(), e.id)
         }
@@ -375,19 +387,37 @@ fn binary<F: Fn(&mut Machine, u16, Values) -> Result<Option<Value>, Stop>>(
     ensures turns { m.old.turns ≤ m.new.turns }
 {
     let a = eval(around, run, m, slots, left)?;
+    with_left(around, run, m, slots, right, sign, left.id, a)
+}
+
+// What comes of the right operand, behind the value of the left one.
+#[cycle(eval)]
+#[inline(always)]
+fn with_left<F: Fn(&mut Machine, u16, Values) -> Result<Option<Value>, Stop>>(
+    around: &Around,
+    run: &F,
+    m: &mut Machine,
+    slots: &Values,
+    right: &Expr,
+    sign: Sign,
+    left: u32,
+    a: Value,
+) -> Result<Value, Stop>
+    requires callable { F.IsAlwaysCallable run.now }
+    requires calls { (m : _) (method : ℕ) (values : _) (r : _) (m' : _) → F.post run.now m method values r m' → CallEnds around.now m.now method values r m'.now }
+    ensures ends { Ends (frame slots.now m.new) result (after_left around.now sign left right.now a (frame slots.now m.old)) }
+    ensures kept { IfKept result (Keeps m.old m.new) }
+    ensures turns { m.old.turns ≤ m.new.turns }
+{
     if decides(sign, &a) {
         return Ok(a);
     }
     let b = eval(around, run, m, slots, right)?;
-    let types = (
-        type_at(around.facts, left.id),
-        type_at(around.facts, right.id),
-    );
-    combined(around.alloc, sign, types, &a, b)
+    joined(around, sign, left, right.id, &a, b)
 }
 
 #[cycle(eval)]
-#[inline(never)]
+#[inline(always)]
 fn receiver<F: Fn(&mut Machine, u16, Values) -> Result<Option<Value>, Stop>>(
     around: &Around,
     run: &F,
@@ -402,9 +432,31 @@ fn receiver<F: Fn(&mut Machine, u16, Values) -> Result<Option<Value>, Stop>>(
     ensures turns { m.old.turns ≤ m.new.turns }
 {
     match of {
-        None => Ok(slot_value(around.alloc, slots, 0)?),
+        None => this_value(around, m, slots),
         Some(of) => eval(around, run, m, slots, of.get()),
     }
+}
+
+// The receiver, behind the values that are there.
+#[cycle(eval)]
+#[inline(always)]
+fn receive<F: Fn(&mut Machine, u16, Values) -> Result<Option<Value>, Stop>>(
+    around: &Around,
+    run: &F,
+    m: &mut Machine,
+    slots: &Values,
+    of: &Option<Boxed<Expr>>,
+    values: &mut Values,
+) -> Result<(), Stop>
+    requires callable { F.IsAlwaysCallable run.now }
+    requires calls { (m : _) (method : ℕ) (values : _) (r : _) (m' : _) → F.post run.now m method values r m' → CallEnds around.now m.now method values r m'.now }
+    ensures ends { EndsWith (frame slots.now m.new) values.new result (gather values.old (expressions.receiver (option_map (says around.now) of.now) ∷ []) (frame slots.now m.old)) }
+    ensures kept { IfKept result (Keeps m.old m.new) }
+    ensures turns { m.old.turns ≤ m.new.turns }
+{
+    let object = receiver(around, run, m, slots, of)?;
+    values.push(object)?;
+    Ok(())
 }
 
 // The value of an expression, where a value of another type is wanted.
@@ -429,7 +481,7 @@ pub fn fitted<F: Fn(&mut Machine, u16, Values) -> Result<Option<Value>, Stop>>(
 
 // The arguments, behind the values that are there.
 #[cycle(eval)]
-#[inline(never)]
+#[inline(always)]
 fn arguments<F: Fn(&mut Machine, u16, Values) -> Result<Option<Value>, Stop>>(
     around: &Around,
     run: &F,
@@ -454,7 +506,7 @@ fn arguments<F: Fn(&mut Machine, u16, Values) -> Result<Option<Value>, Stop>>(
     Ok(())
 }
 
-// A call on an object.
+// A call of a method.
 #[cycle(eval)]
 #[inline(never)]
 fn call<F: Fn(&mut Machine, u16, Values) -> Result<Option<Value>, Stop>>(
@@ -462,19 +514,20 @@ fn call<F: Fn(&mut Machine, u16, Values) -> Result<Option<Value>, Stop>>(
     run: &F,
     m: &mut Machine,
     slots: &Values,
-    args: &[Expr],
-    name: Named,
-    object: Value,
+    args: &Items<Expr>,
+    of: &Option<Boxed<Expr>>,
+    id: u32,
 ) -> Result<Value, Stop>
     requires callable { F.IsAlwaysCallable run.now }
     requires calls { (m : _) (method : ℕ) (values : _) (r : _) (m' : _) → F.post run.now m method values r m' → CallEnds around.now m.now method values r m'.now }
-    ensures ends { Ends (frame slots.now m.new) result (expressions.called_on (around_of around.now) name (map (says around.now) args.now) object (frame slots.now m.old)) }
+    ensures ends { Ends (frame slots.now m.new) result (expressions.called (around_of around.now) (mean_named_at around.now.facts.now id) (option_map (says around.now) of.now) (map (says around.now) args.now) (frame slots.now m.old)) }
     ensures kept { IfKept result (Keeps m.old m.new) }
     ensures turns { m.old.turns ≤ m.new.turns }
 {
     let mut values = Values::new(around.alloc);
-    values.push(object)?;
+    receive(around, run, m, slots, of, &mut values)?;
+    let name = named_at(around.facts, id);
     let wanted = params_of(around.facts, name);
-    arguments(around, run, m, slots, args, wanted, &mut values)?;
+    arguments(around, run, m, slots, args.as_slice(), wanted, &mut values)?;
     invoke(around, run, m, slots, name, values)
 }

@@ -1,7 +1,7 @@
 //! The operators and literals of the syntax tree.
-ghost use Rattle.std.specs.Prelude.{◌≡◌, ◌%◌, ◌^◌, Ok, IfOk};
+ghost use Rattle.std.specs.Prelude.{◌≡◌, ◌%◌, ◌^◌, Ok};
 ghost use Rattle.px_value.specs.declared.value.Value.TheVariants.{Text as TextValue};
-ghost use Rattle.px_value.specs.Operators.{apply as mean_apply};
+ghost use Rattle.px_value.specs.Operators.{apply as mean_apply, changed as mean_changed};
 ghost use Rattle.px_semantics.specs.Expressions.{decimal_value, literal as mean_literal, widened as mean_widened, prefixed as mean_prefixed, is_true as mean_is_true, decides as mean_decides, combined as mean_combined};
 ghost use Rattle.px_semantics.specs.Statements.{one as mean_one};
 ghost use Rattle.px_interpreter.specs.View.{Came};
@@ -9,10 +9,10 @@ ghost use Rattle.px_interpreter.specs.View.{Came};
 use crate::facts::op_of;
 use crate::stop::Stop;
 use px_facts::Ty;
-use px_ops::{Op, apply, changed};
+use px_ops::{Op, apply};
 use px_tree::Sign;
 use px_value::{Text, Value};
-use std::alloc::{AllocError, Global};
+use std::alloc::Global;
 
 /// What an operator comes to.
 pub fn applied(alloc: Global, op: Op, a: &Value, b: &Value) -> Result<Value, Stop>
@@ -32,18 +32,31 @@ pub fn prefixed(alloc: Global, op: Option<Op>, value: Value) -> Result<Value, St
     }
 }
 
+// An int as a long.
+#[inline(always)]
+fn as_long(value: &Value) -> Value
+    ensures { Ok result ≡ mean_changed Op.Widen value.now }
+{
+    match value {
+        Value::Int(n) => Value::Long(i64::from(*n)),
+        _ => Value::Null,
+    }
+}
+
 /// A value where another type is wanted: an int becomes a long.
 #[tactic(auto, unfolding(px_value::specs::Operators::apply))]
+#[inline(always)]
 pub fn widened(from: Ty, to: Ty, value: Value) -> Value
     ensures { mean_widened from to value ≡ Ok result }
 {
     match (from, to) {
-        (Ty::Int, Ty::Long) => changed(Op::Widen, &value),
+        (Ty::Int, Ty::Long) => as_long(&value),
         (_, _) => value,
     }
 }
 
 // The value of the digits, in its low 64 bits.
+#[inline(never)]
 fn decimal_bits(digits: &[u8]) -> u64
     ensures { result ≡ decimal_value digits.now 0 % 2 ^ 64 }
 {
@@ -57,7 +70,6 @@ fn decimal_bits(digits: &[u8]) -> u64
 }
 
 /// The value of an integer literal.
-#[inline(never)]
 pub fn literal(digits: &[u8], long: bool) -> Value
     ensures { result ≡ mean_literal digits.now long }
 {
@@ -71,8 +83,8 @@ pub fn literal(digits: &[u8], long: bool) -> Value
 
 /// The value of a string literal.
 #[inline(never)]
-pub fn text(alloc: Global, bytes: &[u8]) -> Result<Value, AllocError>
-    ensures { IfOk result (λ v. v ≡ TextValue bytes.now) }
+pub fn text(alloc: Global, bytes: &[u8]) -> Result<Value, Stop>
+    ensures { Came result (Ok (TextValue bytes.now)) }
 {
     let bytes = Vec::from_slice(alloc, bytes)?;
     Ok(Value::Text(Text::from_vec(bytes)))

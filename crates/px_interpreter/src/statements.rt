@@ -302,6 +302,25 @@ fn returned<F: Fn(&mut Machine, u16, Values) -> Result<Option<Value>, Stop>>(
     }
 }
 
+// A call whose value nobody wants.
+#[inline(never)]
+fn evaluated<F: Fn(&mut Machine, u16, Values) -> Result<Option<Value>, Stop>>(
+    around: &Around,
+    run: &F,
+    m: &mut Machine,
+    slots: &Values,
+    call: &Expr,
+) -> Result<Next, Stop>
+    requires callable { F.IsAlwaysCallable run.now }
+    requires calls { (m : _) (method : ℕ) (values : _) (r : _) (m' : _) → F.post run.now m method values r m' → CallEnds around.now m.now method values r m'.now }
+    ensures ends { EndsFlow (frame slots.now m.new) result (parts.evaluated around.now call.now (frame slots.now m.old)) }
+    ensures kept { IfKept result (Keeps m.old m.new) }
+    ensures turns { m.old.turns ≤ m.new.turns }
+{
+    let _ = eval(around, run, m, slots, call)?;
+    Ok(Next::Goes)
+}
+
 // The test of a loop, which is counted once it was evaluated.
 #[inline(never)]
 fn tested<F: Fn(&mut Machine, u16, Values) -> Result<Option<Value>, Stop>>(
@@ -339,8 +358,8 @@ fn holds<F: Fn(&mut Machine, u16, Values) -> Result<Option<Value>, Stop>>(
     ensures kept { IfKept result (Keeps m.old m.new) }
     ensures turns { m.old.turns ≤ m.new.turns }
 {
-    let value = eval(around, run, m, slots, test)?;
-    Ok(is_true(&value))
+    let truth = eval(around, run, m, slots, test)?;
+    Ok(is_true(&truth))
 }
 
 /// What a statement does.
@@ -389,32 +408,24 @@ pub fn exec<F: Fn(&mut Machine, u16, Values) -> Result<Option<Value>, Stop>>(
             step(around, m, slots, Op::Sub, s.id)?;
             Ok(Next::Goes)
         }
-        StmtForm::Call(call) => {
-            let _ = eval(around, run, m, slots, call)?;
-            Ok(Next::Goes)
-        }
-        StmtForm::If { test, yes, no } => {
-            if holds(around, run, m, slots, test)? {
-                return exec(around, run, m, slots, yes.get());
-            }
-            exec_else(around, run, m, slots, no)
-        }
+        StmtForm::Call(call) => { evaluated(around, run, m, slots, call) }
+        StmtForm::If { test, yes, no } => { exec_if(around, run, m, slots, no, yes.get(), test) }
         StmtForm::While { test, body } => {
-            exec_loop(around, run, m, slots, body.get(), None, test)
+            exec_loop(around, run, m, slots, None, body.get(), None, test)
         }
         StmtForm::For {
             first,
             test,
             last,
             body,
-        } => exec_for(
+        } => exec_loop(
             around,
             run,
             m,
             slots,
-            first.get(),
+            Some(first.get()),
             body.get(),
-            last.get(),
+            Some(last.get()),
             test,
         ),
         StmtForm::Return(value) => returned(around, run, m, slots, value),
@@ -451,6 +462,29 @@ fn exec_all<F: Fn(&mut Machine, u16, Values) -> Result<Option<Value>, Stop>>(
 
 #[cycle(exec)]
 #[inline(never)]
+fn exec_if<F: Fn(&mut Machine, u16, Values) -> Result<Option<Value>, Stop>>(
+    around: &Around,
+    run: &F,
+    m: &mut Machine,
+    slots: &mut Values,
+    no: &Option<Boxed<Stmt>>,
+    yes: &Stmt,
+    test: &Expr,
+) -> Result<Next, Stop>
+    requires callable { F.IsAlwaysCallable run.now }
+    requires calls { (m : _) (method : ℕ) (values : _) (r : _) (m' : _) → F.post run.now m method values r m' → CallEnds around.now m.now method values r m'.now }
+    ensures ends { EndsFlow (frame slots.new m.new) result (parts.chosen around.now test.now yes.now no.now (frame slots.old m.old)) }
+    ensures kept { IfKept result (Keeps m.old m.new) }
+    ensures turns { m.old.turns ≤ m.new.turns }
+{
+    if holds(around, run, m, slots, test)? {
+        return exec(around, run, m, slots, yes);
+    }
+    exec_else(around, run, m, slots, no)
+}
+
+#[cycle(exec)]
+#[inline(never)]
 fn exec_else<F: Fn(&mut Machine, u16, Values) -> Result<Option<Value>, Stop>>(
     around: &Around,
     run: &F,
@@ -470,7 +504,7 @@ fn exec_else<F: Fn(&mut Machine, u16, Values) -> Result<Option<Value>, Stop>>(
     }
 }
 
-// The last part of a `for`.
+// What stands before a turn of a loop, if anything does.
 #[cycle(exec)]
 #[inline(never)]
 fn exec_last<F: Fn(&mut Machine, u16, Values) -> Result<Option<Value>, Stop>>(
@@ -492,29 +526,7 @@ fn exec_last<F: Fn(&mut Machine, u16, Values) -> Result<Option<Value>, Stop>>(
     }
 }
 
-// The body of a loop, and the last part of a `for`.
-#[cycle(exec)]
-#[inline(never)]
-fn exec_round<F: Fn(&mut Machine, u16, Values) -> Result<Option<Value>, Stop>>(
-    around: &Around,
-    run: &F,
-    m: &mut Machine,
-    slots: &mut Values,
-    body: &Stmt,
-    last: Option<&Stmt>,
-) -> Result<Next, Stop>
-    requires callable { F.IsAlwaysCallable run.now }
-    requires calls { (m : _) (method : ℕ) (values : _) (r : _) (m' : _) → F.post run.now m method values r m' → CallEnds around.now m.now method values r m'.now }
-    ensures ends { EndsFlow (frame slots.new m.new) result (parts.round around.now body.now (option_copied last.entry) (frame slots.old m.old)) }
-    ensures kept { IfKept result (Keeps m.old m.new) }
-    ensures turns { m.old.turns ≤ m.new.turns }
-{
-    match exec(around, run, m, slots, body)? {
-        Next::Goes => exec_last(around, run, m, slots, last),
-        Next::Returns(value) => Ok(Next::Returns(value)),
-    }
-}
-
+// A loop: `first` before it, and `last` behind each of its turns.
 #[cycle(exec)]
 #[inline(never)]
 fn exec_loop<F: Fn(&mut Machine, u16, Values) -> Result<Option<Value>, Stop>>(
@@ -522,47 +534,30 @@ fn exec_loop<F: Fn(&mut Machine, u16, Values) -> Result<Option<Value>, Stop>>(
     run: &F,
     m: &mut Machine,
     slots: &mut Values,
+    first: Option<&Stmt>,
     body: &Stmt,
     last: Option<&Stmt>,
     test: &Expr,
 ) -> Result<Next, Stop>
     requires callable { F.IsAlwaysCallable run.now }
     requires calls { (m : _) (method : ℕ) (values : _) (r : _) (m' : _) → F.post run.now m method values r m' → CallEnds around.now m.now method values r m'.now }
-    ensures ends { EndsFlow (frame slots.new m.new) result (parts.loops around.now test.now body.now (option_copied last.entry) statements.all_turns (frame slots.old m.old)) }
+    ensures ends { EndsFlow (frame slots.new m.new) result (parts.looped around.now (option_copied first.entry) test.now (option_copied last.entry) body.now (frame slots.old m.old)) }
     ensures kept { IfKept result (Keeps m.old m.new) }
     ensures turns { m.old.turns ≤ m.new.turns }
 {
+    let mut before = first;
     loop {
-        if !tested(around, run, m, slots, test)? {
-            return Ok(Next::Goes);
-        }
-        match exec_round(around, run, m, slots, body, last)? {
+        match exec_last(around, run, m, slots, before)? {
             Next::Goes => {}
             Next::Returns(value) => return Ok(Next::Returns(value)),
         }
-    }
-}
-
-#[cycle(exec)]
-#[inline(never)]
-fn exec_for<F: Fn(&mut Machine, u16, Values) -> Result<Option<Value>, Stop>>(
-    around: &Around,
-    run: &F,
-    m: &mut Machine,
-    slots: &mut Values,
-    first: &Stmt,
-    body: &Stmt,
-    last: &Stmt,
-    test: &Expr,
-) -> Result<Next, Stop>
-    requires callable { F.IsAlwaysCallable run.now }
-    requires calls { (m : _) (method : ℕ) (values : _) (r : _) (m' : _) → F.post run.now m method values r m' → CallEnds around.now m.now method values r m'.now }
-    ensures ends { EndsFlow (frame slots.new m.new) result (parts.looped around.now first.now test.now last.now body.now (frame slots.old m.old)) }
-    ensures kept { IfKept result (Keeps m.old m.new) }
-    ensures turns { m.old.turns ≤ m.new.turns }
-{
-    match exec(around, run, m, slots, first)? {
-        Next::Goes => exec_loop(around, run, m, slots, body, Some(last), test),
-        Next::Returns(value) => Ok(Next::Returns(value)),
+        if !tested(around, run, m, slots, test)? {
+            return Ok(Next::Goes);
+        }
+        match exec(around, run, m, slots, body)? {
+            Next::Goes => {}
+            Next::Returns(value) => return Ok(Next::Returns(value)),
+        }
+        before = last;
     }
 }

@@ -2,6 +2,7 @@ pub mod Run
 pub mod Facts
 pub mod Effects
 pub mod Operations
+pub mod Asks
 pub mod Expressions
 pub mod Statements
 pub mod Calls

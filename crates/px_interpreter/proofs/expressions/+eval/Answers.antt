@@ -1,4 +1,4 @@
-use Rattle.std.proofs.Common.{ap, sym, ◌∙◌, List, ℕ, Bool, Option, map, if◌then◌else◌}
+use Rattle.std.proofs.Common.{ap, sym, ◌∙◌, List, ℕ, Bool, Option, option_map, map, if◌then◌else◌}
 use Rattle.px_value.specs.declared.value.Value.{Value}
 use Rattle.px_value.specs.declared.value.Value.TheVariants.{Text}
 use Rattle.px_value.specs.Outcome.{Gives, then_run, ◌>>=◌, pure}
@@ -6,9 +6,11 @@ use Rattle.px_value.specs.Operators.{Applied}
 use Rattle.px_semantics.specs.Run.{came_to}
 use Rattle.px_facts.specs.declared.types.Ty.{Ty}
 use Rattle.px_facts.specs.declared.checked.Named.{Named}
-use Rattle.px_semantics.specs.Expressions.{literal, name_value, member_value, made_object, called_on, widened, prefixed, combined}
-use Rattle.px_semantics.specs.Facts.{prefix_of}
+use Rattle.px_semantics.specs.Expressions.{literal, member_value, called, widened, prefixed, combined, decides}
+use Rattle.px_semantics.specs.Facts.{prefix_of, named_at, type_at}
 use Rattle.px_value.specs.declared.op.Op.{Op}
+use Rattle.px_tree.specs.declared.Expr.{Expr}
+use Rattle.px_interpreter.specs.Parts.{operand_value}
 use Rattle.px_interpreter.specs.View.{Here, frame, around_of, says}
 use Rattle.px_interpreter.proofs.Steps.{exits, gives_then, same_end, ends_came}
 use Rattle.px_interpreter.proofs.Runs.{type_says, run_number, run_text, run_true, run_false, run_null, run_this, run_name, run_group, run_field, run_index, run_call, run_new_object, run_new_array, run_prefix, run_binary}
@@ -31,26 +33,9 @@ eval-returns-in-Null-clause-ends g t c = run_null c.args.around.now c.args.e.now
 pub eval-returns-in-Group-clause-ends : goal.eval-returns-in-Group-clause-ends
 eval-returns-in-Group-clause-ends g t c = same_end _ _ _ _ (run_group c.args.around.now c.args.e.now _ _ _ c.in-Group.is c.get.ensures) c.eval.ensures.ends
 
-pub eval-returns-in-Name-clause-ends : goal.eval-returns-in-Name-clause-ends
-eval-returns-in-Name-clause-ends g t c =
-    same_end _ _ _ _ (run_name c.args.around.now c.args.e.now _ _ c.in-Name.is ∙ ap (λ (n : Named). name_value n (frame c.args.slots.now c.args.m.now)) (sym c.named_at.ensures)) c.name_value.ensures
-
-pub eval-returns-in_ok-text-in-Str-clause-ends : goal.eval-returns-in_ok-text-in-Str-clause-ends
-eval-returns-in_ok-text-in-Str-clause-ends g t c =
-    run_text c.args.around.now c.args.e.now _ _ c.in-Str.is
-    ∙ ap (λ (v : Value). Gives v (frame c.args.slots.now c.args.m.now)) (sym (c.in_ok-text-in-Str.ensures ∙ ap Text c.as_slice-in-Str.ensures))
-
-pub eval-returns-in_ok-slot_value-in-This-clause-ends : goal.eval-returns-in_ok-slot_value-in-This-clause-ends
-eval-returns-in_ok-slot_value-in-This-clause-ends g t c =
-    run_this c.args.around.now c.args.e.now _ c.in-This.is ∙ ap (λ (v : Value). Gives v (frame c.args.slots.now c.args.m.now)) (sym c.in_ok-slot_value-in-This.ensures)
-
-pub eval-returns-in-NewObject-clause-ends : goal.eval-returns-in-NewObject-clause-ends
-eval-returns-in-NewObject-clause-ends g t c =
-    same_end _ _ _ _ (run_new_object c.args.around.now c.args.e.now _ _ c.in-NewObject.is ∙ ap (λ (n : Named). made_object c.args.around.now.facts.now n (frame c.args.slots.now c.args.m.now)) (sym c.named_at-in-NewObject.ensures)) c.made_object.ensures.ends
-
 pub eval-returns-in-Field-clause-ends : goal.eval-returns-in-Field-clause-ends
 eval-returns-in-Field-clause-ends g t c =
-    same_end _ _ _ _ (run_field c.args.around.now c.args.e.now _ _ _ _ c.in-Field.is c.get-in-Field.ensures ∙ ap (λ (n : Named). then_run ((says c.args.around.now c.get-in-Field.result.now).run (frame c.args.slots.now c.args.m.now)) (member_value n)) (sym c.named_at-in-Field.ensures)) c.field.ensures.ends
+    same_end _ _ _ _ (run_field c.args.around.now c.args.e.now _ _ _ _ c.in-Field.is c.get-in-Field.ensures ∙ ap (λ (n : Named). then_run ((says c.args.around.now c.get-in-Field.result.now).run (frame c.args.slots.now c.args.m.now)) (member_value n)) (sym c.named_at.ensures)) c.field.ensures.ends
 
 pub eval-returns-in-Index-clause-ends : goal.eval-returns-in-Index-clause-ends
 eval-returns-in-Index-clause-ends g t c =
@@ -68,17 +53,6 @@ pub eval-returns-in-Binary-clause-ends : goal.eval-returns-in-Binary-clause-ends
 eval-returns-in-Binary-clause-ends g t c =
     same_end _ _ _ _ (run_binary c.args.around.now c.args.e.now _ _ _ _ _ _ _ c.in-Binary.is c.get-in-Binary.ensures c.get-in-Binary-2.ensures) c.binary.ensures.ends
 
-pub eval-returns-in_err-object-in-Call-clause-ends : goal.eval-returns-in_err-object-in-Call-clause-ends
-eval-returns-in_err-object-in-Call-clause-ends g t c =
-    exits _ _ _ _ _ _ c.from_residual-in_err-object-in-Call.ensures.1 c.in_err-object-in-Call.ensures.ends (run_call c.args.around.now c.args.e.now _ _ _ _ c.in-Call.is)
-
-pub eval-returns-in_ok-object-in-Call-clause-ends : goal.eval-returns-in_ok-object-in-Call-clause-ends
-eval-returns-in_ok-object-in-Call-clause-ends g t c =
-    same_end _ _ _ _
-    (run_call c.args.around.now c.args.e.now _ _ _ _ c.in-Call.is ∙ gives_then _ _ _ _ c.in_ok-object-in-Call.ensures.ends
-    ∙ (λ i. called_on (around_of c.args.around.now) (sym c.named_at-in-Call.ensures i) (map (says c.args.around.now) (sym c.as_slice-in-Call.ensures i)) c.in_ok-object-in-Call.object (frame c.args.slots.now c.receiver.new.m)))
-    c.call.ensures.ends
-
 pub fitted-returns-clause-ends : goal.fitted-returns-clause-ends
 fitted-returns-clause-ends g t c =
     gives_then _ _ _ _ c.in_ok-value.ensures.ends
@@ -92,15 +66,44 @@ prefix-returns-clause-ends g t c =
     ∙ ap (λ (o : Option Op). came_to (prefixed o c.in_ok-value.value) s) (ap (prefix_of c.args.sign) (type_says c.args.around.now c.args.value.now ∙ sym c.type_at.ensures) ∙ sym c.prefix_of-op.ensures))
     (ends_came s _ _ c.prefixed.ensures)
 
+pub eval-returns-in-Name-clause-ends : goal.eval-returns-in-Name-clause-ends
+eval-returns-in-Name-clause-ends g t c = same_end _ _ _ _ (run_name c.args.around.now c.args.e.now _ _ c.in-Name.is) c.name_value.ensures
+
+pub eval-returns-in-Str-clause-ends : goal.eval-returns-in-Str-clause-ends
+eval-returns-in-Str-clause-ends g t c =
+    let s : Here = frame c.args.slots.now c.args.m.now in
+    same_end _ _ _ _ (run_text c.args.around.now c.args.e.now _ _ c.in-Str.is ∙ ap (λ (b : List ℕ). Gives (Text b) s) (sym c.as_slice-in-Str.ensures)) (ends_came s _ _ c.text.ensures)
+
+pub eval-returns-in-This-clause-ends : goal.eval-returns-in-This-clause-ends
+eval-returns-in-This-clause-ends g t c = same_end _ _ _ _ (run_this c.args.around.now c.args.e.now _ c.in-This.is) c.this_value.ensures
+
+pub eval-returns-in-NewObject-clause-ends : goal.eval-returns-in-NewObject-clause-ends
+eval-returns-in-NewObject-clause-ends g t c = same_end _ _ _ _ (run_new_object c.args.around.now c.args.e.now _ _ c.in-NewObject.is) c.made_object.ensures.ends
+
+pub eval-returns-in-Call-clause-ends : goal.eval-returns-in-Call-clause-ends
+eval-returns-in-Call-clause-ends g t c = same_end _ _ _ _ (run_call c.args.around.now c.args.e.now _ _ _ _ c.in-Call.is) c.call.ensures.ends
+
 pub binary-returns-clause-ends : goal.binary-returns-clause-ends
 binary-returns-clause-ends g t c =
-    let l = says c.args.around.now c.args.left.now in
-    let r = says c.args.around.now c.args.right.now in
+    let a = c.args.around.now in
     let near : Here = frame c.args.slots.now c.eval.new.m in
-    let far : Here = frame c.args.slots.now c.eval-2.new.m in
     same_end _ _ _ _
-    (gives_then _ _ _ _ c.in_ok-a.ensures.ends
-    ∙ ap (λ (d : Bool). (if d then pure c.in_ok-a.a else (r.run >>= (λ b. came_to (combined c.args.sign l.ty r.ty c.in_ok-a.a b)))) near) (sym c.decides.ensures ∙ c.if-decides.false)
+    (gives_then _ _ _ _ c.in_ok-a.ensures.ends ∙ ap (λ (t : Ty). (if decides c.args.sign c.in_ok-a.a then pure c.in_ok-a.a else ((says a c.args.right.now).run >>= (λ w. came_to (combined c.args.sign t (says a c.args.right.now).ty c.in_ok-a.a w)))) near) (type_says a c.args.left.now))
+    c.with_left.ensures.ends
+
+pub with_left-returns-in_err-b-clause-ends : goal.with_left-returns-in_err-b-clause-ends
+with_left-returns-in_err-b-clause-ends g t c =
+    let near : Here = frame c.args.slots.now c.args.m.now in
+    exits _ _ _ _ _ _ c.from_residual.ensures.1 c.in_err-b.ensures.ends
+    (ap (λ (d : Bool). (if d then pure c.args.a else operand_value c.args.around.now c.args.sign c.args.left c.args.right.now c.args.a) near) (sym c.decides.ensures ∙ c.if-decides.false))
+
+pub with_left-returns-clause-ends : goal.with_left-returns-clause-ends
+with_left-returns-clause-ends g t c =
+    let r = says c.args.around.now c.args.right.now in
+    let near : Here = frame c.args.slots.now c.args.m.now in
+    let far : Here = frame c.args.slots.now c.eval.new.m in
+    same_end _ _ _ _
+    (ap (λ (d : Bool). (if d then pure c.args.a else operand_value c.args.around.now c.args.sign c.args.left c.args.right.now c.args.a) near) (sym c.decides.ensures ∙ c.if-decides.false)
     ∙ gives_then _ _ _ _ c.in_ok-b.ensures.ends
-    ∙ (λ i. came_to (combined c.args.sign ((type_says c.args.around.now c.args.left.now ∙ sym c.type_at.ensures) i) ((type_says c.args.around.now c.args.right.now ∙ sym c.type_at-2.ensures) i) c.in_ok-a.a c.in_ok-b.b) far))
-    (ends_came far _ _ c.combined.ensures)
+    ∙ ap (λ (t : Ty). came_to (combined c.args.sign (type_at c.args.around.now.facts.now c.args.left) t c.args.a c.in_ok-b.b) far) (type_says c.args.around.now c.args.right.now))
+    (ends_came far _ _ c.joined.ensures)

@@ -1,9 +1,13 @@
-use Rattle.std.proofs.Common.{◌≡◌, ◌≤◌, ◌+◌, ◌*◌, max, map, drop}
-use Rattle.px_tree.specs.declared.Expr.{size-Expr}
+use Rattle.std.proofs.Common.{◌≡◌, ◌≤◌, ◌+◌, ◌*◌, ℕ, max, map, drop, Option, Some, None}
+use Rattle.px_tree.specs.declared.Expr.{Expr, size-Expr}
 use Rattle.px_semantics.specs.Run.{gather}
 use Rattle.px_semantics.specs.Expressions.{fitted}
 use Rattle.px_interpreter.specs.View.{frame, says, Keeps}
 use Rattle.px_interpreter.proofs.expressions.+eval.Given as goal
+
+abbrev deep : Option Expr → ℕ
+deep None = 0
+deep (Some e) = size-Expr e
 
 abbrev pub decreases-eval : goal.decreases-eval
 decreases-eval g l = 5 * size-Expr l.e.now
@@ -21,10 +25,16 @@ abbrev pub decreases-fitted : goal.decreases-fitted
 decreases-fitted g l = 5 * size-Expr l.e.now + 1
 
 abbrev pub decreases-receiver : goal.decreases-receiver
-decreases-receiver g l = 5 * goal.size-receiver g l + 1
+decreases-receiver g l = 5 * deep l.of.now + 1
+
+abbrev pub decreases-with_left : goal.decreases-with_left
+decreases-with_left g l = 5 * size-Expr l.right.now + 1
+
+abbrev pub decreases-receive : goal.decreases-receive
+decreases-receive g l = 5 * deep l.of.now + 2
 
 abbrev pub decreases-binary : goal.decreases-binary
-decreases-binary g l = 5 * max (size-Expr l.left.now) (size-Expr l.right.now) + 1
+decreases-binary g l = 5 * max (size-Expr l.left.now) (size-Expr l.right.now) + 2
 
 abbrev pub decreases-element : goal.decreases-element
 decreases-element g l = 5 * max (size-Expr l.of.now) (size-Expr l.index.now) + 1
@@ -34,7 +44,7 @@ abbrev pub decreases-arguments : goal.decreases-arguments
 decreases-arguments g l = 5 * goal.size-arguments g l + 2
 
 abbrev pub decreases-call : goal.decreases-call
-decreases-call g l = 5 * goal.size-call g l + 3
+decreases-call g l = 5 * max (deep l.of.now) (goal.size-call g l) + 3
 
 abbrev pub invariant-arguments-loop-arg : goal.invariant-arguments-loop-arg
 invariant-arguments-loop-arg g l = record {

@@ -3,9 +3,8 @@ use Rattle.px_tree.specs.declared.Stmt.{Stmt, size-Stmt}
 use Rattle.std.specs.Option.{option_copied}
 use Rattle.px_value.specs.Outcome.{in_order}
 use Rattle.px_semantics.specs.Run.{max_turns}
-use Rattle.px_semantics.specs.Statements.{all_turns}
 use Rattle.px_interpreter.specs.View.{frame, does, Keeps}
-use Rattle.px_interpreter.specs.Parts.{loops}
+use Rattle.px_interpreter.specs.Parts.{looped, loops_behind}
 use Rattle.px_interpreter.proofs.statements.+exec.Given as goal
 
 abbrev size_if : Option (Bor Stmt) → ℕ
@@ -21,17 +20,14 @@ decreases-exec_all g l = 5 * goal.size-exec_all g l + 1
 abbrev pub decreases-exec_else : goal.decreases-exec_else
 decreases-exec_else g l = 5 * goal.size-exec_else g l + 1
 
+abbrev pub decreases-exec_if : goal.decreases-exec_if
+decreases-exec_if g l = 5 * max (size-Stmt l.yes.now) (goal.size-exec_if g l) + 2
+
 abbrev pub decreases-exec_last : goal.decreases-exec_last
 decreases-exec_last g l = 5 * size_if l.last + 1
 
-abbrev pub decreases-exec_round : goal.decreases-exec_round
-decreases-exec_round g l = 5 * max (size-Stmt l.body.now) (size_if l.last) + 2
-
 abbrev pub decreases-exec_loop : goal.decreases-exec_loop
-decreases-exec_loop g l = 5 * max (size-Stmt l.body.now) (size_if l.last) + 3
-
-abbrev pub decreases-exec_for : goal.decreases-exec_for
-decreases-exec_for g l = 5 * max (size-Stmt l.first.now) (max (size-Stmt l.body.now) (size-Stmt l.last.now)) + 4
+decreases-exec_loop g l = 5 * max (size_if l.first) (max (size-Stmt l.body.now) (size_if l.last)) + 3
 
 abbrev pub invariant-exec_all-loop-item : goal.invariant-exec_all-loop-item
 invariant-exec_all-loop-item g l = record {
@@ -41,12 +37,13 @@ invariant-exec_all-loop-item g l = record {
 }
 
 -- the loop has some number of turns left, with which its meaning is the whole loop's
-abbrev pub invariant-exec_loop-loop-m : goal.invariant-exec_loop-loop-m
-invariant-exec_loop-loop-m g l = record {
-  left : (n : ℕ) × (max_turns + 1 ≤ n + l.m.turns) × (loops l.fn.around l.fn.test l.fn.body (option_copied l.fn.last) all_turns (frame l.fn.slots l.fn.m) ≡ loops l.fn.around l.fn.test l.fn.body (option_copied l.fn.last) n (frame l.slots l.m));
+abbrev pub invariant-exec_loop-loop-value : goal.invariant-exec_loop-loop-value
+invariant-exec_loop-loop-value g l = record {
+  left : (n : ℕ) × (max_turns + 1 ≤ n + l.m.turns) × (looped l.fn.around (option_copied l.fn.first) l.fn.test (option_copied l.fn.last) l.fn.body (frame l.fn.slots l.fn.m) ≡ loops_behind l.fn.around (option_copied l.before) l.fn.test (option_copied l.fn.last) l.fn.body n (frame l.slots l.m));
+  small : size_if l.before ≤ max (size_if l.fn.first) (max (size-Stmt l.fn.body) (size_if l.fn.last));
   kept : Keeps l.fn.m l.m;
   turns : l.fn.m.turns ≤ l.m.turns;
 }
 
-abbrev pub decreases-exec_loop-loop-m : goal.decreases-exec_loop-loop-m
-decreases-exec_loop-loop-m g l = max_turns + 1 - l.m.turns
+abbrev pub decreases-exec_loop-loop-value : goal.decreases-exec_loop-loop-value
+decreases-exec_loop-loop-value g l = max_turns + 1 - l.m.turns

@@ -1,0 +1,2 @@
+//! The rows of tables, and operations on them.
+#![tactic(auto)]
