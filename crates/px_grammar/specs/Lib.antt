@@ -6,6 +6,5 @@ pub mod Grammar
 pub mod Reading
 pub mod Heads
 pub mod Places
-pub mod Unbuilt
 pub mod Programs
 pub mod Law

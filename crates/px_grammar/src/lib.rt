@@ -20,14 +20,12 @@ mod source;
 mod statements;
 mod tokens;
 mod types;
-mod unbuilt;
 mod whole;
 mod word;
 
 pub use error::{ParseError, ReadError};
 pub use lexeme::{Lexeme, Word};
 pub use program::{line_at, parse, refused_line};
-pub use unbuilt::first_unbuilt;
 pub use whole::Declared;
 pub use word::lexemes;
 
