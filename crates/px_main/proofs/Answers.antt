@@ -14,12 +14,13 @@ use Rattle.px_mean.specs.Program.{program_fields}
 use Rattle.px_session.proofs.Once.{calls_are_told_once}
 use Rattle.px_session.proofs.Kept.{keep_is_not_told}
 use Rattle.px_report.specs.History.{report_text}
-use Rattle.px_main.specs.Run.{entries_of}
 use Rattle.px_main.specs.Solo.{by_source, asked, class_names, heap_of, history_of, serial_of, AreDone, IsReport}
 use Rattle.px_split_job.specs.declared.job.Call.{Call as JobCall}
-use Rattle.px_split_job.specs.declared.job.JobFault.{JobFault}
+use Rattle.px_split_job.specs.declared.job.JobFault.{JobFault as SplitFault}
+use Rattle.px_job.specs.declared.job.Job.{Job}
+use Rattle.px_job.specs.declared.job.JobFault.{JobFault}
 use Rattle.px_split_job.specs.declared.job.SplitJob.{SplitJob}
-use Rattle.px_split_job.specs.Jobs.{job_of}
+use Rattle.px_job.specs.Jobs.{job_of}
 use Rattle.px_split_job.specs.SplitJobs.{split_job_of}
 use Rattle.px_lower.specs.Programs.{lowered}
 use Rattle.px_main.specs.declared.command.Kind.{Kind}
@@ -27,13 +28,12 @@ use Rattle.px_main.specs.declared.command.Kind.TheVariants.{Run, Solo}
 use Rattle.px_main.specs.declared.fault.Fault.{Fault}
 use Rattle.px_main.specs.declared.fault.ProgramCode.TheVariants.{Syntax}
 use Rattle.px_main.specs.Commands.{Command, Checks, Serves}
-use Rattle.px_main.specs.Whole.{Found, IsFound, ungrammatical, grammatical, IsBuiltWhole, JudgesWhole, fault_at, by_breach}
+use Rattle.px_main.specs.Whole.{Found, IsFound, ungrammatical, grammatical, JudgesWhole, fault_at, by_tables}
 use Rattle.px_main.specs.Answers.{Answer, IsParsed, unbuilt, built, IsTaken, IsRuled, IsBuilt, Judges, AnswersCalls, AnswersSplit, Answering, answers_run, answers_solo, AnswersJob, AnswersProgram, Judging, IsAnswerBy, IsAnswer, IsChecked, check_answer, Holds, AllowsCheck, AllowsBoth, FixesBoth, FixesCheck, FixesStatusBoth, FixesStatusCheck, Fixes, HasStatusBy, HasStatus, HasCheckStatus, status_read, status_run, status_solo, status_of_job, status_of, typed, kept, max_program, max_job}
 use Rattle.px_tree.specs.declared.Program.{Program as WholeProgram}
 use Rattle.px_facts.specs.declared.checked.Checked.{Checked as WholeChecked}
-use Rattle.px_grammar.specs.Unbuilt as whole
+use Rattle.px_sql.specs.Schemas.{schema_of}
 use Rattle.px_grammar.proofs.Programs as whole_programs
-use Rattle.px_rules.specs.Programs.{first_breach_of}
 
 abbrev Outcome : Type 0
 Outcome = Result Checked Fault
@@ -44,15 +44,11 @@ found_once : (bytes : List ℕ) (f g : Found) → IsFound bytes f → IsFound by
 found_once bytes f g (ungrammatical l at e) (ungrammatical m also e') = e ∙ ap (λ (n : ℕ). Err (fault_at n Syntax)) (whole_programs.one_line bytes l m at also) ∙ sym e'
 found_once bytes f g (ungrammatical l at e) (grammatical p is e') = absurd (whole_programs.no_program bytes l p at is)
 found_once bytes f g (grammatical p is e) (ungrammatical m at e') = absurd (whole_programs.no_program bytes m p at is)
-found_once bytes f g (grammatical p is e) (grammatical q also e') = e ∙ ap (λ (r : WholeProgram). by_breach r (first_breach_of r)) (whole_programs.one_program bytes p q is also) ∙ sym e'
-
-built_whole_once : (bytes : List ℕ) (line : Option ℕ) (f g : Found) → IsBuiltWhole bytes line f → IsBuiltWhole bytes line g → f ≡ g
-built_whole_once bytes (Some n) f g h k = h ∙ sym k
-built_whole_once bytes None f g h k = found_once bytes f g h k
+found_once bytes f g (grammatical p is e) (grammatical q also e') = e ∙ ap (λ (r : WholeProgram). by_tables r (schema_of r.tables)) (whole_programs.one_program bytes p q is also) ∙ sym e'
 
 judges_whole_once : (file : Option (List ℕ)) (f g : Found) → JudgesWhole file f → JudgesWhole file g → f ≡ g
 judges_whole_once None f g h k = h ∙ sym k
-judges_whole_once (Some bytes) f g h k = built_whole_once bytes (whole.unbuilt_line bytes) f g h k
+judges_whole_once (Some bytes) f g h k = found_once bytes f g h k
 
 -- ---- and so is what comes of it for `solo`
 
@@ -93,16 +89,16 @@ one_report c job t u h k =
 
 -- ---- two answers over the same files are one
 
-calls_once : (c : WholeChecked) (calls : Result (List JobCall) JobFault) (a b : Answer) → AnswersCalls c calls a → AnswersCalls c calls b → a ≡ b
+calls_once : (c : WholeChecked) (job : Result Job JobFault) (a b : Answer) → AnswersCalls c job a → AnswersCalls c job b → a ≡ b
 calls_once c (Err f) a b h k = h ∙ sym k
-calls_once c (Ok calls) a b h k = h ∙ sym k
+calls_once c (Ok job) a b h k = h ∙ sym k
 
-split_once : (c : Checked) (job : Result SplitJob JobFault) (a b : Answer) → AnswersSplit c job a → AnswersSplit c job b → a ≡ b
+split_once : (c : Checked) (job : Result SplitJob SplitFault) (a b : Answer) → AnswersSplit c job a → AnswersSplit c job b → a ≡ b
 split_once c (Err f) a b h k = h ∙ sym k
 split_once c (Ok job) a b h k = λ i. ((h.0 ∙ sym k.0) i, one_report c job a.1 b.1 h.1 k.1 i)
 
 run_once : (c : WholeChecked) (job : List ℕ) (a b : Answer) → answers_run c job a → answers_run c job b → a ≡ b
-run_once c job a b h k = calls_once c (job_of (entries_of c) job) a b h k
+run_once c job a b h k = calls_once c (job_of c.facts.main.entries c.schema job) a b h k
 
 solo_once : (c : Checked) (job : List ℕ) (a b : Answer) → answers_solo c job a → answers_solo c job b → a ≡ b
 solo_once c job a b h k = split_once c (split_job_of c.entries (lowered c) job) a b h k
@@ -127,16 +123,16 @@ one_answer Solo program job a b h k = answer_once Judges answers_solo judges_onc
 
 -- ---- only a refused program gives status 5, whatever the job is
 
-calls_not_five : (c : WholeChecked) (calls : Result (List JobCall) JobFault) (a : Answer) → AnswersCalls c calls a → a.0 ≡ 5 → ⊥
+calls_not_five : (c : WholeChecked) (job : Result Job JobFault) (a : Answer) → AnswersCalls c job a → a.0 ≡ 5 → ⊥
 calls_not_five c (Err f) a h five = let e = ap (λ (x : Answer). x.0) h in absurd (omega arith)
-calls_not_five c (Ok calls) a h five = let e = ap (λ (x : Answer). x.0) h in absurd (omega arith)
+calls_not_five c (Ok job) a h five = let e = ap (λ (x : Answer). x.0) h in absurd (omega arith)
 
-split_not_five : (c : Checked) (job : Result SplitJob JobFault) (a : Answer) → AnswersSplit c job a → a.0 ≡ 5 → ⊥
+split_not_five : (c : Checked) (job : Result SplitJob SplitFault) (a : Answer) → AnswersSplit c job a → a.0 ≡ 5 → ⊥
 split_not_five c (Err f) a h five = let e = ap (λ (x : Answer). x.0) h in absurd (omega arith)
 split_not_five c (Ok job) a h five = let e = h.0 in absurd (omega arith)
 
 run_not_five : (c : WholeChecked) (job : List ℕ) (a : Answer) → answers_run c job a → a.0 ≡ 5 → ⊥
-run_not_five c job a h five = calls_not_five c (job_of (entries_of c) job) a h five
+run_not_five c job a h five = calls_not_five c (job_of c.facts.main.entries c.schema job) a h five
 
 solo_not_five : (c : Checked) (job : List ℕ) (a : Answer) → answers_solo c job a → a.0 ≡ 5 → ⊥
 solo_not_five c job a h five = split_not_five c (split_job_of c.entries (lowered c) job) a h five
@@ -194,16 +190,16 @@ fixes_once (Serves kind program job) holds a b f g = both_fix_once kind (holds p
 
 -- ---- the status alone
 
-calls_status : (c : WholeChecked) (calls : Result (List JobCall) JobFault) (a : Answer) → AnswersCalls c calls a → a.0 ≡ status_read calls
+calls_status : (c : WholeChecked) (job : Result Job JobFault) (a : Answer) → AnswersCalls c job a → a.0 ≡ status_read job
 calls_status c (Err f) a h = ap (λ (x : Answer). x.0) h
-calls_status c (Ok calls) a h = ap (λ (x : Answer). x.0) h
+calls_status c (Ok job) a h = ap (λ (x : Answer). x.0) h
 
-split_status : (c : Checked) (job : Result SplitJob JobFault) (a : Answer) → AnswersSplit c job a → a.0 ≡ status_read job
+split_status : (c : Checked) (job : Result SplitJob SplitFault) (a : Answer) → AnswersSplit c job a → a.0 ≡ status_read job
 split_status c (Err f) a h = ap (λ (x : Answer). x.0) h
 split_status c (Ok job) a h = h.0
 
 run_status : (c : WholeChecked) (job : List ℕ) (a : Answer) → answers_run c job a → a.0 ≡ status_run c job
-run_status c job a h = calls_status c (job_of (entries_of c) job) a h
+run_status c job a h = calls_status c (job_of c.facts.main.entries c.schema job) a h
 
 solo_status : (c : Checked) (job : List ℕ) (a : Answer) → answers_solo c job a → a.0 ≡ status_solo c job
 solo_status c job a h = split_status c (split_job_of c.entries (lowered c) job) a h

@@ -7,6 +7,8 @@ pub mod BySource
 pub mod Planned
 pub mod Reported
 pub mod Faults
+pub mod Found
 pub mod Ran
+pub mod Numbers
 pub mod Ruled
 pub mod Pushed

@@ -8,12 +8,15 @@ use Rattle.px_facts.specs.declared.checked.Checked.{Checked as WholeChecked}
 use Rattle.px_types.specs.declared.program.Known.{Known}
 use Rattle.px_types.specs.Programs.{judged}
 use Rattle.px_lower.specs.Programs.{lowered}
-use Rattle.px_split_job.specs.declared.job.Call.{Call as JobCall}
-use Rattle.px_split_job.specs.declared.job.JobFault.{JobFault}
-use Rattle.px_split_job.specs.declared.job.JobCode.{JobCode}
-use Rattle.px_split_job.specs.declared.job.JobCode.TheVariants as code
+use Rattle.px_job.specs.declared.job.Job.{Job}
+use Rattle.px_job.specs.declared.job.JobFault.{JobFault}
+use Rattle.px_job.specs.declared.job.JobCode.{JobCode}
+use Rattle.px_job.specs.declared.job.JobCode.TheVariants as code
+use Rattle.px_job.specs.Jobs.{job_of}
+use Rattle.px_split_job.specs.declared.job.JobFault.{JobFault as SplitFault}
+use Rattle.px_split_job.specs.declared.job.JobCode.{JobCode as SplitCode}
+use Rattle.px_split_job.specs.declared.job.JobCode.TheVariants as split_code
 use Rattle.px_split_job.specs.declared.job.SplitJob.{SplitJob}
-use Rattle.px_split_job.specs.Jobs.{job_of}
 use Rattle.px_split_job.specs.SplitJobs.{split_job_of}
 use Rattle.px_report.specs.Lines.{line}
 use Rattle.px_main.specs.declared.command.Kind.{Kind}
@@ -23,7 +26,7 @@ use Rattle.px_main.specs.declared.fault.ProgramCode.{ProgramCode}
 use Rattle.px_main.specs.declared.fault.ProgramCode.TheVariants.{TooLong, Syntax, Rule, Later}
 use Rattle.px_main.specs.Commands.{Command, Checks, Serves}
 use Rattle.px_main.specs.Whole.{Found, fault_at, IsFound, JudgesWhole}
-use Rattle.px_main.specs.Run.{entries_of, run_of, text_of}
+use Rattle.px_main.specs.Run.{run_of, text_of}
 use Rattle.px_main.specs.Solo.{IsReport}
 
 abbrev pub max_program : ℕ
@@ -85,15 +88,33 @@ program_code Later = codes "Later"
 abbrev pub job_code : JobCode → List ℕ
 job_code code.Later = codes "Later"
 job_code code.J1 = codes "J1"
+job_code code.J3 = codes "J3"
 job_code code.J4 = codes "J4"
 job_code code.J5 = codes "J5"
+job_code code.J6 = codes "J6"
+job_code code.J7 = codes "J7"
+job_code code.J8 = codes "J8"
+job_code code.J9 = codes "J9"
 job_code code.J10 = codes "J10"
 job_code code.J11 = codes "J11"
 job_code code.J12 = codes "J12"
-job_code code.J13 = codes "J13"
-job_code code.J14 = codes "J14"
-job_code code.J17 = codes "J17"
 job_code code.J18 = codes "J18"
+job_code code.J19 = codes "J19"
+job_code code.J20 = codes "J20"
+
+-- of a job with a part
+abbrev pub split_job_code : SplitCode → List ℕ
+split_job_code split_code.Later = codes "Later"
+split_job_code split_code.J1 = codes "J1"
+split_job_code split_code.J4 = codes "J4"
+split_job_code split_code.J5 = codes "J5"
+split_job_code split_code.J10 = codes "J10"
+split_job_code split_code.J11 = codes "J11"
+split_job_code split_code.J12 = codes "J12"
+split_job_code split_code.J13 = codes "J13"
+split_job_code split_code.J14 = codes "J14"
+split_job_code split_code.J17 = codes "J17"
+split_job_code split_code.J18 = codes "J18"
 
 abbrev pub refused_program : Fault → Answer
 refused_program f = (5, line (codes "program" ∷ decimal f.line ∷ program_code f.code ∷ []))
@@ -104,14 +125,17 @@ refused_job number name = (6, line (codes "job" ∷ decimal number ∷ name ∷ 
 abbrev pub refused_by : JobFault → Answer
 refused_by f = refused_job f.line (job_code f.code)
 
--- `a` is an answer over the calls that were read, or over what is wrong with them: `run` has one
-abbrev pub AnswersCalls : WholeChecked → Result (List JobCall) JobFault → Answer → Type 0
+abbrev pub split_refused_by : SplitFault → Answer
+split_refused_by f = refused_job f.line (split_job_code f.code)
+
+-- `a` is an answer over the job that was read, or over what is wrong with it: `run` has one
+abbrev pub AnswersCalls : WholeChecked → Result Job JobFault → Answer → Type 0
 AnswersCalls c (Err f) a = a ≡ refused_by f
-AnswersCalls c (Ok calls) a = a ≡ (0, text_of c (run_of c calls))
+AnswersCalls c (Ok job) a = a ≡ (0, text_of c job (run_of c job))
 
 -- the same of a job with a part: `solo` answers with a report
-abbrev pub AnswersSplit : Checked → Result SplitJob JobFault → Answer → Type 0
-AnswersSplit c (Err f) a = a ≡ refused_by f
+abbrev pub AnswersSplit : Checked → Result SplitJob SplitFault → Answer → Type 0
+AnswersSplit c (Err f) a = a ≡ split_refused_by f
 AnswersSplit c (Ok job) a = (a.0 ≡ 0) × IsReport c job a.1
 
 -- what a command makes of an accepted program and a job
@@ -119,7 +143,7 @@ abbrev pub Answering : Type 0 → Type 1
 Answering C = C → List ℕ → Answer → Type 0
 
 abbrev pub answers_run : Answering WholeChecked
-answers_run c job a = AnswersCalls c (job_of (entries_of c) job) a
+answers_run c job a = AnswersCalls c (job_of c.facts.main.entries c.schema job) a
 
 abbrev pub answers_solo : Answering Checked
 answers_solo c job a = AnswersSplit c (split_job_of c.entries (lowered c) job) a
@@ -165,12 +189,12 @@ FixesBoth kind (Some program) (Some job) a = Answers kind program job a
 -- ---- the status alone
 
 -- of a job that was read
-abbrev pub status_read : {A : Type 0} → Result A JobFault → ℕ
+abbrev pub status_read : {A F : Type 0} → Result A F → ℕ
 status_read (Err f) = 6
 status_read (Ok job) = 0
 
 abbrev pub status_run : WholeChecked → List ℕ → ℕ
-status_run c job = status_read (job_of (entries_of c) job)
+status_run c job = status_read (job_of c.facts.main.entries c.schema job)
 
 abbrev pub status_solo : Checked → List ℕ → ℕ
 status_solo c job = status_read (split_job_of c.entries (lowered c) job)

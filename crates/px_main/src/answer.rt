@@ -3,18 +3,21 @@ ghost use Rattle.std.specs.Prelude.{◌≡◌, ◌≤◌, length, IfOk, IfSome};
 ghost use Rattle.std.specs.Option.{option_map};
 ghost use Rattle.px_lower.specs.WellFormed.{IsJudged};
 ghost use Rattle.px_main.specs.Whole.{JudgesWhole};
-ghost use Rattle.px_main.specs.Answers.{IsAnswer, IsAnswerBy, IsChecked, Judges, answers_run, answers_solo, AnswersJob, refused_program, refused_job, refused_by, program_code as code_of_program, job_code as code_of_job, max_program, max_job};
+ghost use Rattle.px_main.specs.Answers.{IsAnswer, IsAnswerBy, IsChecked, Judges, answers_run, answers_solo, AnswersJob, refused_program, refused_job, refused_by, split_refused_by, program_code as code_of_program, job_code as code_of_job, split_job_code as code_of_split_job, max_program, max_job};
 
 use crate::command::Kind;
 use crate::fault::{Fault, ProgramCode};
 use crate::judge::judge;
-use crate::run::{entries, run};
+use crate::run::run;
 use crate::solo::solo;
 use crate::whole::judge_whole;
 use px_facts::Checked as WholeChecked;
-use px_split_job::{JobCode, JobError, JobFault, read_job, read_split_job};
+use px_job::{JobCode, JobError, JobFault, read_job};
 use px_lower::lower;
 use px_report::refusal_text;
+use px_split_job::{
+    JobCode as SplitCode, JobError as SplitError, JobFault as SplitFault, read_split_job,
+};
 use px_types::Checked;
 use std::alloc::{AllocError, Global};
 
@@ -42,15 +45,38 @@ fn job_code(code: JobCode) -> &'static [u8]
     match code {
         JobCode::Later => b"Later",
         JobCode::J1 => b"J1",
+        JobCode::J3 => b"J3",
         JobCode::J4 => b"J4",
         JobCode::J5 => b"J5",
+        JobCode::J6 => b"J6",
+        JobCode::J7 => b"J7",
+        JobCode::J8 => b"J8",
+        JobCode::J9 => b"J9",
         JobCode::J10 => b"J10",
         JobCode::J11 => b"J11",
         JobCode::J12 => b"J12",
-        JobCode::J13 => b"J13",
-        JobCode::J14 => b"J14",
-        JobCode::J17 => b"J17",
         JobCode::J18 => b"J18",
+        JobCode::J19 => b"J19",
+        JobCode::J20 => b"J20",
+    }
+}
+
+// Of a job with a part.
+fn split_job_code(code: SplitCode) -> &'static [u8]
+    ensures { result.now ≡ code_of_split_job code }
+{
+    match code {
+        SplitCode::Later => b"Later",
+        SplitCode::J1 => b"J1",
+        SplitCode::J4 => b"J4",
+        SplitCode::J5 => b"J5",
+        SplitCode::J10 => b"J10",
+        SplitCode::J11 => b"J11",
+        SplitCode::J12 => b"J12",
+        SplitCode::J13 => b"J13",
+        SplitCode::J14 => b"J14",
+        SplitCode::J17 => b"J17",
+        SplitCode::J18 => b"J18",
     }
 }
 
@@ -75,14 +101,20 @@ fn refused(alloc: Global, fault: JobFault) -> Result<Prepared, AllocError>
     job_refused(alloc, fault.line, job_code(fault.code))
 }
 
+fn split_refused(alloc: Global, fault: SplitFault) -> Result<Prepared, AllocError>
+    ensures { IfOk result (λ a. (a.status, a.text.items) ≡ split_refused_by fault) }
+{
+    job_refused(alloc, fault.line, split_job_code(fault.code))
+}
+
 fn answer_run(alloc: Global, checked: &WholeChecked, bytes: &[u8]) -> Result<Prepared, AllocError>
     requires { length bytes.now ≤ max_job }
     ensures { IfOk result (λ a. answers_run checked.now bytes.now (a.status, a.text.items)) }
 {
-    let entries = entries(alloc, checked.facts.main.entries.as_slice())?;
-    match read_job(alloc, bytes, entries.as_slice()) {
+    let entries = checked.facts.main.entries.as_slice();
+    match read_job(alloc, bytes, entries, &checked.schema) {
         Ok(job) => {
-            let text = run(alloc, checked, job.calls.as_slice())?;
+            let text = run(alloc, checked, &job)?;
             Ok(Prepared { status: 0, text })
         }
         Err(JobError::Fault(fault)) => refused(alloc, fault),
@@ -101,8 +133,8 @@ fn answer_solo(alloc: Global, checked: &Checked, bytes: &[u8]) -> Result<Prepare
             let text = solo(alloc, checked, code, job)?;
             Ok(Prepared { status: 0, text })
         }
-        Err(JobError::Fault(fault)) => refused(alloc, fault),
-        Err(JobError::NoMemory) => Err(AllocError),
+        Err(SplitError::Fault(fault)) => split_refused(alloc, fault),
+        Err(SplitError::NoMemory) => Err(AllocError),
     }
 }
 

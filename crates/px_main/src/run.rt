@@ -1,44 +1,51 @@
 //! The serial run of a job, and its text.
-ghost use Rattle.std.specs.Prelude.{◌≡◌, ◌+◌, ◌++◌, map, length, IfOk};
+ghost use Rattle.std.specs.Prelude.{◌≡◌, ◌<◌, ◌+◌, ◌-◌, ◌^◌, map, IfOk, OnOk};
+ghost use Rattle.std.specs.Option.{option_copied};
 ghost use Rattle.px_interpreter.specs.Serial.{told_call};
-ghost use Rattle.px_main.specs.Run.{entry_of, wanted, shown_from, run_of, text_of};
+ghost use Rattle.px_main.specs.Run.{wanted, with_row, tables_of, session_in, count_of, counted, no_counts, shown_from, run_of, text_of};
 
 use px_code::Shown;
 use px_facts::Checked;
 use px_interpreter::{Call, Ran, serve};
+use px_job::{Job, Row};
 use px_report::{ShownCall, run_text};
+use px_rows::{LoadError, Tables};
 use px_tree::Class;
-use px_types::Entry;
-use px_value::Text;
-use sqlite_items::Items;
+use px_value::{Schema, Text, Value, Values};
 use std::alloc::{AllocError, Global};
 
-fn job_entry(alloc: Global, fact: &px_facts::Entry) -> Result<Entry, AllocError>
-    ensures { IfOk result (λ entry. entry ≡ entry_of fact.now) }
+fn copied(alloc: Global, values: &[Value]) -> Result<Values, AllocError>
+    ensures { IfOk result (λ all. all ≡ values.now) }
 {
-    let name = fact.name.copy(alloc)?;
-    let params = Items::from_slice(alloc, fact.params.as_slice())?;
-    Ok(Entry {
-        name,
-        method: fact.method,
-        params,
-        gives: fact.gives,
-    })
-}
-
-/// The entries that a job may name.
-pub fn entries(alloc: Global, facts: &[px_facts::Entry]) -> Result<Vec<Entry>, AllocError>
-    ensures { IfOk result (λ all. all.items ≡ map entry_of facts.now) }
-{
-    let mut all = Vec::new(alloc);
-    for fact in facts {
-        let entry = job_entry(alloc, fact)?;
-        all.push(entry)?;
+    let mut all = Values::new(alloc);
+    for value in values {
+        all.push(value.copy(alloc)?)?;
     }
     Ok(all)
 }
 
-fn wanted_call(call: &px_split_job::Call) -> Call<'_>
+fn load_row(alloc: Global, tables: &mut Tables, row: &Row) -> Result<(), AllocError>
+    ensures { OnOk result (tables.new ≡ with_row tables.old row.now) }
+{
+    let values = copied(alloc, row.values.as_slice())?;
+    match tables.load(alloc, row.table, values) {
+        Ok(()) | Err(LoadError::Doubled) => Ok(()),
+        Err(LoadError::NoMemory) => Err(AllocError),
+    }
+}
+
+// The tables before the first call.
+fn load_rows(alloc: Global, schema: &Schema, rows: &[Row]) -> Result<Tables, AllocError>
+    ensures { IfOk result (λ tables. tables ≡ tables_of schema.now rows.now) }
+{
+    let mut tables = Tables::new(alloc, schema)?;
+    for row in rows {
+        load_row(alloc, &mut tables, row)?;
+    }
+    Ok(tables)
+}
+
+fn wanted_call(call: &px_job::Call) -> Call<'_>
     ensures { told_call result ≡ wanted call.now }
 {
     Call {
@@ -48,7 +55,7 @@ fn wanted_call(call: &px_split_job::Call) -> Call<'_>
     }
 }
 
-fn wanted_calls(alloc: Global, calls: &[px_split_job::Call]) -> Result<Vec<Call<'_>>, AllocError>
+fn wanted_calls(alloc: Global, calls: &[px_job::Call]) -> Result<Vec<Call<'_>>, AllocError>
     ensures { IfOk result (λ all. map told_call all.items ≡ map wanted calls.now) }
 {
     let mut all = Vec::new(alloc);
@@ -58,22 +65,61 @@ fn wanted_calls(alloc: Global, calls: &[px_split_job::Call]) -> Result<Vec<Call<
     Ok(all)
 }
 
-// What the calls of the one session show, with their numbers.
-fn shown_calls(alloc: Global, shown: Vec<Shown>) -> Result<Vec<ShownCall>, AllocError>
-    ensures { IfOk result (λ calls. calls.items ≡ shown_from 1 shown.items) }
+// No session has made a call.
+fn no_calls(alloc: Global, sessions: u16) -> Result<Vec<u64>, AllocError>
+    ensures { IfOk result (λ counts. counts.items ≡ no_counts sessions) }
 {
-    let session = 1;
-    let mut calls = Vec::new(alloc);
-    let mut number: u64 = 1;
+    let counts = vec![in alloc; 0; usize::from(sessions) + 1]?;
+    Ok(counts)
+}
+
+// The session of a call, or 0 where there is none.
+fn session_of(call: Option<&px_job::Call>) -> u16
+    ensures { result ≡ session_in (option_copied call.entry) }
+{
+    match call {
+        Some(call) => call.session,
+        None => 0,
+    }
+}
+
+// Counts a call of a session, and answers its number.
+fn count(counts: &mut Vec<u64>, session: u16) -> u64
+    requires { count_of counts.old.items session < 2 ^ 64 - 1 }
+    ensures number { result ≡ count_of counts.old.items session + 1 }
+    ensures counts { counts.new.items ≡ counted counts.old.items session }
+{
+    let at = usize::from(session);
+    if at < counts.len() {
+        counts[at] += 1;
+        return counts[at];
+    }
+    1
+}
+
+// What the calls show, with their numbers among those of their sessions.
+fn shown_calls(
+    alloc: Global,
+    sessions: u16,
+    calls: &[px_job::Call],
+    shown: Vec<Shown>,
+) -> Result<Vec<ShownCall>, AllocError>
+    ensures { IfOk result (λ all. all.items ≡ shown_from calls.now 0 (no_counts sessions) shown.items) }
+{
+    let mut counts = no_calls(alloc, sessions)?;
+    let mut all = Vec::new(alloc);
+    let mut place: usize = 0;
     for shown in shown {
-        calls.push(ShownCall {
+        let session = session_of(calls.get(place));
+        let number = count(&mut counts, session);
+        all.push(ShownCall {
             session,
             number,
             shown,
         })?;
-        number += 1;
+        place += 1;
     }
-    Ok(calls)
+    Ok(all)
 }
 
 // The names of classes, by number from 0.
@@ -87,14 +133,27 @@ fn class_names(alloc: Global, classes: &[Class]) -> Result<Vec<Text>, AllocError
     Ok(all)
 }
 
-/// The text of the serial run of the calls.
-pub fn run(alloc: Global, checked: &Checked, calls: &[px_split_job::Call]) -> Result<Vec<u8>, AllocError>
-    ensures { IfOk result (λ text. text.items ≡ text_of checked.now (run_of checked.now calls.now)) }
+/// The text of the serial run of a job.
+pub fn run(alloc: Global, checked: &Checked, job: &Job) -> Result<Vec<u8>, AllocError>
+    ensures { IfOk result (λ text. text.items ≡ text_of checked.now job.now (run_of checked.now job.now)) }
 {
-    let wanted = wanted_calls(alloc, calls)?;
-    let ran = serve(alloc, checked, 1, wanted.as_slice())?;
-    let Ran { shown, heaps } = ran;
-    let calls = shown_calls(alloc, shown)?;
+    let sessions = job.settings.sessions;
+    let wanted = wanted_calls(alloc, job.calls.as_slice())?;
+    let tables = load_rows(alloc, &checked.schema, job.rows.as_slice())?;
+    let ran = serve(alloc, checked, tables, sessions, wanted.as_slice())?;
+    let Ran {
+        shown,
+        heaps,
+        tables,
+    } = ran;
+    let calls = shown_calls(alloc, sessions, job.calls.as_slice(), shown)?;
     let names = class_names(alloc, checked.program.classes.as_slice())?;
-    run_text(alloc, names.as_slice(), calls.as_slice(), heaps.as_slice())
+    run_text(
+        alloc,
+        names.as_slice(),
+        &checked.schema,
+        calls.as_slice(),
+        &tables,
+        heaps.as_slice(),
+    )
 }

@@ -1,35 +1,78 @@
-//! What the rules of the whole language find in a program file.
-ghost use Rattle.std.specs.Prelude.{◌≡◌, ◌≤◌, length, IfSome, IfOk};
+//! What the rules of the language find in a program file.
+ghost use Rattle.std.specs.Prelude.{◌≡◌, ◌≤◌, length, IfSome, IfOk, slice_get};
 ghost use Rattle.std.specs.Option.{option_map};
+ghost use Rattle.px_rules.specs.Programs.{first_breach_of};
+ghost use Rattle.px_sql.specs.Schemas.{schema_of};
 ghost use Rattle.px_main.specs.Answers.{max_program};
-ghost use Rattle.px_main.specs.Whole.{fault_in as fault_of, HasFault, IsFound, JudgesWhole};
+ghost use Rattle.px_main.specs.Whole.{fault_in as fault_of, by_rules, by_tables, table_line, HasFault, IsFound, JudgesWhole};
 
 use crate::fault::{Fault, ProgramCode};
 use px_facts::Checked;
-use px_grammar::{ParseError, first_unbuilt, parse};
-use px_rules::{CheckError, check};
+use px_grammar::{ParseError, parse};
+use px_rules::{CheckError, check, line_at};
+use px_sql::{SchemaError, read_schema};
+use px_tree::Program;
+use px_value::Schema;
+use sqlite_items::at;
 use std::alloc::{AllocError, Global};
 
-/// A text with all that is known of it, or what is wrong with it.
-fn find(alloc: Global, bytes: &[u8]) -> Result<Result<Checked, Fault>, AllocError>
-    requires { length bytes.now ≤ max_program }
-    ensures { IfOk result (λ found. IsFound bytes.now found) }
+// A program over its tables.
+fn check_over(
+    alloc: Global,
+    program: Program,
+    schema: Schema,
+) -> Result<Result<Checked, Fault>, AllocError>
+    ensures { IfOk result (λ found. found ≡ by_rules program schema (first_breach_of program schema)) }
 {
-    let program = match parse(alloc, bytes) {
-        Ok(program) => program,
-        Err(ParseError::Syntax { line }) => {
-            let code = ProgramCode::Syntax;
-            return Ok(Err(Fault { line, code }));
-        }
-        Err(ParseError::NoMemory) => return Err(AllocError),
-    };
-    match check(alloc, program) {
+    match check(alloc, program, schema) {
         Ok(checked) => Ok(Ok(checked)),
         Err(CheckError::TypeFault { line, code }) => {
             let code = ProgramCode::Rule(code);
             Ok(Err(Fault { line, code }))
         }
         Err(CheckError::NoMemory) => Err(AllocError),
+    }
+}
+
+// The line of a table.
+fn line_of_table(program: &Program, index: u32) -> u32
+    ensures { result ≡ table_line program.now (slice_get program.now.tables index) }
+{
+    match at(program.tables.as_slice(), index as usize) {
+        Some(table) => line_at(program.tokens.as_slice(), table.name.token),
+        None => 0,
+    }
+}
+
+fn check_program(
+    alloc: Global,
+    program: Program,
+) -> Result<Result<Checked, Fault>, AllocError>
+    ensures { IfOk result (λ found. found ≡ by_tables program (schema_of program.tables)) }
+{
+    match read_schema(alloc, program.tables.as_slice()) {
+        Ok(schema) => check_over(alloc, program, schema),
+        Err(SchemaError::BadTable { index }) => {
+            let line = line_of_table(&program, index);
+            let code = ProgramCode::Rule(16);
+            Ok(Err(Fault { line, code }))
+        }
+        Err(SchemaError::NoMemory) => Err(AllocError),
+    }
+}
+
+/// A text with all that is known of it, or what is wrong with it.
+fn find(alloc: Global, bytes: &[u8]) -> Result<Result<Checked, Fault>, AllocError>
+    requires { length bytes.now ≤ max_program }
+    ensures { IfOk result (λ found. IsFound bytes.now found) }
+{
+    match parse(alloc, bytes) {
+        Ok(program) => check_program(alloc, program),
+        Err(ParseError::Syntax { line }) => {
+            let code = ProgramCode::Syntax;
+            Ok(Err(Fault { line, code }))
+        }
+        Err(ParseError::NoMemory) => Err(AllocError),
     }
 }
 
@@ -59,18 +102,11 @@ pub fn judge_whole(
     requires { IfSome bytes.now (λ bytes. length bytes.items ≤ max_program) }
     ensures { IfOk result (λ found. JudgesWhole (option_map (λ bytes. bytes.items) bytes.now) found) }
 {
-    let bytes = match bytes {
-        Some(bytes) => bytes.as_slice(),
+    match bytes {
+        Some(bytes) => find(alloc, bytes.as_slice()),
         None => {
             let code = ProgramCode::TooLong;
-            return Ok(Err(Fault { line: 0, code }));
+            Ok(Err(Fault { line: 0, code }))
         }
-    };
-    match first_unbuilt(alloc, bytes)? {
-        Some(line) => {
-            let code = ProgramCode::Later;
-            Ok(Err(Fault { line, code }))
-        }
-        None => find(alloc, bytes),
     }
 }

@@ -27,7 +27,7 @@ abbrev pub event_text : List (List ℕ) → Event → List ℕ
 event_text parts (Begin session call attempt) = begin_line session call attempt
 event_text parts (End session done) = end_line parts session done ++ flat_map (print_line session) done.prints
 
--- the events in order, and what the calls leave
+-- the events in order, and what the calls leave; there are no tables
 unfoldable pub report_text : List (List ℕ) → List (List ℕ) → List Event → List (List Object) → List ℕ
 report_text classes parts events heaps =
-    line (codes "history" ∷ []) ++ flat_map (event_text parts) events ++ state_text classes heaps
+    line (codes "history" ∷ []) ++ flat_map (event_text parts) events ++ state_text [] classes heaps

@@ -1,3 +1,5 @@
 pub mod Words
 pub mod Lines
+pub mod Tables
+pub mod Runs
 pub mod History

@@ -33,13 +33,10 @@ abbrev pub heap_text : List (List ℕ) → ℕ → List Object → List ℕ
 heap_text classes number heap = line (codes "heap" ∷ decimal number ∷ []) ++ numbered (object_line classes) 0 heap
 
 -- what the calls leave, with which each text ends: the tables, and the heap of each session; the sessions have numbers from 1
-abbrev pub state_text : List (List ℕ) → List (List Object) → List ℕ
-state_text classes heaps =
+abbrev pub state_text : List ℕ → List (List ℕ) → List (List Object) → List ℕ
+state_text tables classes heaps =
     line (codes "tables" ∷ [])
+    ++ tables
     ++ line (codes "heaps" ∷ [])
     ++ numbered (heap_text classes) 1 heaps
     ++ line (codes "done" ∷ [])
-
--- the calls in order, and what they leave
-unfoldable pub run_text : List (List ℕ) → List ShownCall → List (List Object) → List ℕ
-run_text classes calls heaps = line (codes "calls" ∷ []) ++ flat_map call_text calls ++ state_text classes heaps

@@ -9,8 +9,8 @@ use crate::words::{push_number, push_value};
 use px_value::{Heap, Object, Text, Value};
 use std::alloc::AllocError;
 
-// Each value behind a space.
-fn push_cells(text: &mut Vec<u8>, cells: &[Value]) -> Result<(), AllocError>
+/// Each value behind a space.
+pub fn push_cells(text: &mut Vec<u8>, cells: &[Value]) -> Result<(), AllocError>
     ensures { OnOk result (text.new.items ≡ text.old.items ++ flat_map (λ cell. 32 ∷ value_text cell) cells.now) }
 {
     for cell in cells {

@@ -10,6 +10,7 @@ mod refusal;
 mod report;
 mod run;
 mod state;
+mod tables;
 #[cfg(test)]
 mod tests;
 mod words;

@@ -3,7 +3,7 @@ ghost use Rattle.std.specs.Prelude.{◌≡◌, IfOk};
 ghost use Rattle.px_report.specs.History.{report_text};
 
 use crate::events::push_events;
-use crate::state::push_state;
+use crate::state::push_heaps_to_end;
 use px_code::Event;
 use px_value::{Heap, Text};
 use std::alloc::{AllocError, Global};
@@ -21,6 +21,7 @@ pub fn report_text(
 {
     let mut text = Vec::from_slice(alloc, b"history\n")?;
     push_events(&mut text, parts, events)?;
-    push_state(&mut text, classes, heaps)?;
+    text.extend_from_slice(b"tables\n")?;
+    push_heaps_to_end(&mut text, classes, heaps)?;
     Ok(text)
 }

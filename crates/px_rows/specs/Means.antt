@@ -1,5 +1,5 @@
 -- The meaning of the six operations: what each answers, and the tables after it.
-use Rattle.std.specs.Prelude.{ℕ, ℤ, pos, ◌-◌, min, Bool, true, false, List, [], ◌∷◌, ◌++◌, length, map, filter, flat_map, Option, Some, None, option_to_list, slice_index_or, slice_get, slice_set, if◌then◌else◌}
+use Rattle.std.specs.Prelude.{ℕ, ℤ, pos, ◌-◌, min, Bool, true, false, List, [], ◌∷◌, ◌++◌, length, map, filter, flat_map, Option, Some, None, option_to_list, slice_get, slice_set, if◌then◌else◌}
 use Rattle.std.specs.Ordering.{int_eq}
 use Rattle.std.specs.Str.{bytes_eq}
 use Rattle.std.specs.FinMap.{get}
@@ -33,11 +33,15 @@ abbrev pub key_value : Value → ℤ
 key_value (Long k) = k
 key_value _ = pos 0
 
+abbrev pub or_null : Option Value → Value
+or_null None = Null
+or_null (Some v) = v
+
 abbrev pub first_of : List Value → Value
-first_of params = slice_index_or params 0 Null
+first_of params = or_null (slice_get params 0)
 
 abbrev pub last_of : List Value → Value
-last_of params = slice_index_or params (length params - 1) Null
+last_of params = or_null (slice_get params (length params - 1))
 
 -- the key of an insert is its first parameter, and that of the others their last
 abbrev pub key_of : Statement → List Value → ℤ
@@ -56,7 +60,7 @@ same_value (Text a) (Text b) = bytes_eq a b
 same_value _ _ = false
 
 abbrev pub column_of : Row → ℕ → Value
-column_of row column = slice_index_or row column Null
+column_of row column = or_null (slice_get row column)
 
 -- the cells of these columns, row by row
 abbrev pub cells_of : List ℕ → List Row → List Value

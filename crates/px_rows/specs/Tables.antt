@@ -1,8 +1,9 @@
 -- Tables as values: of each table the rows by their keys.
-use Rattle.std.specs.Prelude.{ℕ, ℤ, Bool, ◌==◌, ◌&&◌, List, [], ◌∷◌, Option, Some, None, slice_get, slice_set}
+use Rattle.std.specs.Prelude.{ℕ, ℤ, Bool, ◌==◌, ◌&&◌, List, [], ◌∷◌, map, Option, Some, None, slice_get, slice_set}
 use Rattle.std.specs.Ordering.{int_cmp, int_eq}
 use Rattle.std.specs.FinMap.{FinMap, empty, get, contains_key, insert, remove, values}
 use Rattle.px_value.specs.declared.value.Value.{Value}
+use Rattle.px_value.specs.declared.schema.Table.{Table as Declared}
 
 abbrev pub Row : Type 0
 Row = List Value
@@ -37,6 +38,10 @@ row_at T c = get (table_at T c.table) c.key
 
 abbrev pub has_key : Tables → Place → Bool
 has_key T c = contains_key (table_at T c.table) c.key
+
+-- one for each that is declared
+abbrev pub empty_tables : List Declared → Tables
+empty_tables tables = map (λ t. empty) tables
 
 -- in order of the key
 abbrev pub rows_of : Tables → ℕ → List Row

@@ -1,0 +1,81 @@
+//! The cells that a select answers.
+ghost use Rattle.std.specs.Prelude.{◌≡◌, ◌++◌, map, min, length, OnOk, IfOk};
+ghost use Rattle.px_value.specs.declared.answer.Answer.TheVariants.{Rows};
+ghost use Rattle.px_rows.specs.Means.{column_of, cells_of, rows_with, same_value};
+
+use crate::key::same;
+use px_value::{Answer, Value, Values};
+use std::alloc::{AllocError, Global};
+
+fn cell(alloc: Global, row: &Values, column: u8) -> Result<Value, AllocError>
+    ensures { IfOk result (λ v. v ≡ column_of row.now column) }
+{
+    match row.get(usize::from(column)) {
+        Some(value) => value.copy(alloc),
+        None => Ok(Value::Null),
+    }
+}
+
+/// Adds the cells of these columns.
+pub fn push_cells(
+    alloc: Global,
+    columns: &[u8],
+    row: &Values,
+    cells: &mut Values,
+) -> Result<(), AllocError>
+    ensures { OnOk result (cells.new ≡ cells.old ++ map (column_of row.now) columns.now) }
+{
+    for column in columns {
+        cells.push(cell(alloc, row, *column)?)?;
+    }
+    Ok(())
+}
+
+/// The cells of these columns, row by row.
+pub fn cells(alloc: Global, columns: &[u8], rows: &[&Values]) -> Result<Values, AllocError>
+    ensures { IfOk result (λ cells. cells ≡ cells_of columns.now (map (λ r. r.now) rows.now)) }
+{
+    let mut cells = Values::new(alloc);
+    for row in rows {
+        push_cells(alloc, columns, row, &mut cells)?;
+    }
+    Ok(cells)
+}
+
+fn has(row: &Values, column: u8, wanted: &Value) -> bool
+    ensures { result ≡ same_value (column_of row.now column) wanted.now }
+{
+    match row.get(usize::from(column)) {
+        Some(value) => same(value, wanted),
+        None => same(&Value::Null, wanted),
+    }
+}
+
+/// The cells of these columns of the rows with a value in a column.
+pub fn cells_with(
+    alloc: Global,
+    columns: &[u8],
+    rows: &[&Values],
+    column: u8,
+    wanted: &Value,
+) -> Result<Values, AllocError>
+    ensures { IfOk result (λ cells. cells ≡ cells_of columns.now (rows_with column wanted.now (map (λ r. r.now) rows.now))) }
+{
+    let mut cells = Values::new(alloc);
+    for row in rows {
+        if has(row, column, wanted) {
+            push_cells(alloc, columns, row, &mut cells)?;
+        }
+    }
+    Ok(cells)
+}
+
+/// An answer of rows of so many columns. No table has more than 255.
+pub fn rows_of_width(columns: &[u8], cells: Values) -> Answer
+    ensures { result ≡ Rows (min (length columns.now) 255) cells }
+{
+    Answer::Rows {
+        width: columns.len().min(255) as u8,
+        cells,
+    }
+}
