@@ -32,7 +32,7 @@ use Rattle.px_main.specs.Whole.{Found, IsFound, ungrammatical, grammatical, Judg
 use Rattle.px_main.specs.Answers.{Answer, IsParsed, unbuilt, built, IsTaken, IsRuled, IsBuilt, Judges, AnswersCalls, AnswersSplit, Answering, answers_run, answers_solo, AnswersJob, AnswersProgram, Judging, IsAnswerBy, IsAnswer, IsChecked, check_answer, Holds, AllowsCheck, AllowsBoth, FixesBoth, FixesCheck, FixesStatusBoth, FixesStatusCheck, Fixes, HasStatusBy, HasStatus, HasCheckStatus, status_read, status_run, status_solo, status_of_job, status_of, typed, kept, max_program, max_job}
 use Rattle.px_tree.specs.declared.Program.{Program as WholeProgram}
 use Rattle.px_facts.specs.declared.checked.Checked.{Checked as WholeChecked}
-use Rattle.px_sql.specs.Schemas.{schema_of}
+use Rattle.px_sql.specs.Tables.{schema_of}
 use Rattle.px_grammar.proofs.Programs as whole_programs
 
 abbrev Outcome : Type 0

@@ -4,7 +4,7 @@ use Rattle.px_tree.specs.declared.Program.{Program}
 use Rattle.px_facts.specs.declared.checked.Checked.{Checked}
 use Rattle.px_grammar.specs.Programs.{IsProgram}
 use Rattle.px_grammar.specs.Places.{IsRefusedAt}
-use Rattle.px_sql.specs.Schemas.{schema_of}
+use Rattle.px_sql.specs.Tables.{schema_of}
 use Rattle.px_value.specs.declared.schema.Schema.{Schema}
 use Rattle.px_tree.specs.declared.TableDecl.{TableDecl}
 use Rattle.px_rules.specs.declared.breach.Breach.{Breach}

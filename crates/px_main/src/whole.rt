@@ -2,7 +2,7 @@
 ghost use Rattle.std.specs.Prelude.{◌≡◌, ◌≤◌, length, IfSome, IfOk, slice_get};
 ghost use Rattle.std.specs.Option.{option_map};
 ghost use Rattle.px_rules.specs.Programs.{first_breach_of};
-ghost use Rattle.px_sql.specs.Schemas.{schema_of};
+ghost use Rattle.px_sql.specs.Tables.{schema_of};
 ghost use Rattle.px_main.specs.Answers.{max_program};
 ghost use Rattle.px_main.specs.Whole.{fault_in as fault_of, by_rules, by_tables, table_line, HasFault, IsFound, JudgesWhole};
 
