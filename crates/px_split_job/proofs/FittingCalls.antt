@@ -9,19 +9,15 @@ use Rattle.px_value.specs.declared.ty.Ty.TheVariants as types
 use Rattle.px_value.specs.declared.value.Value.{Value}
 use Rattle.px_value.specs.declared.value.Value.TheVariants as values
 use Rattle.px_types.specs.declared.checked.Entry.{Entry}
-use Rattle.px_split_job.specs.Lines.{lines_of}
-use Rattle.px_split_job.specs.Words.{words_of}
 use Rattle.px_split_job.specs.Places.{place_of}
 use Rattle.px_split_job.specs.Names.{is_name}
 use Rattle.px_split_job.specs.Texts.{text_of}
 use Rattle.px_split_job.specs.Arguments.{is_digits, is_value, is_null, bool_of, int_from, short_text, max_text, argument_of, arguments_of, with_argument}
-use Rattle.px_split_job.specs.Calls.{max_calls, is_session, call_with, call_at, call_to, call_of, judged_call, judged_words, judged}
-use Rattle.px_split_job.specs.Jobs.{later_from, joined, calls_from, job_from, job_of}
-use Rattle.px_split_job.specs.Fitting.{has_type, HaveTypes, IsFitting, CallsFit}
+use Rattle.px_split_job.specs.Calls.{max_calls, is_session, call_with, call_at, call_to, call_of, judged_call, judged_words}
+use Rattle.px_split_job.specs.Fitting.{has_type, HaveTypes, IsFitting}
 use Rattle.px_split_job.specs.declared.job.Call.{Call}
 use Rattle.px_split_job.specs.declared.job.JobCode.{JobCode}
 use Rattle.px_split_job.specs.declared.job.JobCode.TheVariants.{J1, J5, J11, J18}
-use Rattle.px_split_job.specs.declared.job.JobFault.{JobFault}
 
 -- ---- arguments
 
@@ -91,31 +87,8 @@ words_fit entries calls (verb ∷ words) =
       | false ↦ elim (bytes_eq verb (codes "call")) as (λ b. Fits entries (if b then judged_call entries calls words else Err J1)) [ true ↦ call_fits entries calls words | false ↦ tt ]
     ]
 
-line_fits : (entries : List Entry) (calls : ℕ) (line : List ℕ) → Fits entries (judged entries calls line)
-line_fits entries calls line = elim (list_any (nat_le 128) line) as (λ b. Fits entries (if b then Err J1 else judged_words entries calls (words_of line))) [ true ↦ tt | false ↦ words_fit entries calls (words_of line) ]
-
--- ---- all lines
+-- ---- one call more
 
 pub all_more : (entries : List Entry) (calls : List Call) (call : Call) → AllByRecursion (IsFitting entries) calls → IsFitting entries call → AllByRecursion (IsFitting entries) (calls ++ call ∷ [])
 all_more entries [] call all one = (one, tt)
 all_more entries (other ∷ calls) call all one = (all.0, all_more entries calls call all.1 one)
-
-abbrev AllFit : List Entry → Result (List Call) JobFault → Type 0
-AllFit entries meaning = IfOk meaning (λ calls. AllByRecursion (IsFitting entries) calls)
-
-joined_fits : (entries : List Entry) (number : ℕ) (meaning : Result (Option Call) JobCode) (calls : List Call) (on : List Call → Result (List Call) JobFault) → Fits entries meaning → AllByRecursion (IsFitting entries) calls → ((so_far : List Call) → AllByRecursion (IsFitting entries) so_far → AllFit entries (on so_far)) → AllFit entries (joined number meaning calls on)
-joined_fits entries number (Err code) calls on fits all go = tt
-joined_fits entries number (Ok None) calls on fits all go = go calls all
-joined_fits entries number (Ok (Some call)) calls on fits all go = go (calls ++ call ∷ []) (all_more entries calls call all fits)
-
-lines_fit : (entries : List Entry) (number : ℕ) (calls : List Call) (lines : List (List ℕ)) → AllByRecursion (IsFitting entries) calls → AllFit entries (calls_from entries number calls lines)
-lines_fit entries number calls [] all = all
-lines_fit entries number calls (line ∷ lines) all = joined_fits entries number (judged entries (length calls) line) calls (λ so_far. calls_from entries (number + 1) so_far lines) (line_fits entries (length calls) line) all (λ so_far fit. lines_fit entries (number + 1) so_far lines fit)
-
-job_fits : (entries : List Entry) (later : Option ℕ) (lines : List (List ℕ)) → AllFit entries (job_from entries later lines)
-job_fits entries (Some number) lines = tt
-job_fits entries None lines = lines_fit entries 1 [] lines tt
-
-pub calls_fit : CallsFit
-unfolding job_of
-calls_fit entries bytes = job_fits entries (later_from 1 (lines_of bytes)) (lines_of bytes)

@@ -8,7 +8,6 @@ use Rattle.px_value.specs.declared.value.Value.TheVariants as values
 use Rattle.px_types.specs.declared.checked.Entry.{Entry}
 use Rattle.px_code.specs.declared.code.Code.{Code}
 use Rattle.px_split_job.specs.Arguments.{max_text}
-use Rattle.px_split_job.specs.Jobs.{job_of}
 use Rattle.px_split_job.specs.SplitJobs.{split_job_of}
 use Rattle.px_split_job.specs.declared.job.Call.{Call}
 use Rattle.px_split_job.specs.declared.job.SplitJob.{SplitJob}
@@ -33,9 +32,6 @@ pub record IsFitting (entries : List Entry) (call : Call) : Type 0 where
   pub entry : Entry
   pub found : slice_get entries call.entry ≡ Some entry
   pub arguments : HaveTypes entry.params call.args
-
-abbrev pub CallsFit : Type 0
-CallsFit = (entries : List Entry) (bytes : List ℕ) → IfOk (job_of entries bytes) (λ calls. AllByRecursion (IsFitting entries) calls)
 
 -- the calls fit, and the part has one side for each node
 pub record FitsSplit (entries : List Entry) (code : Code) (job : SplitJob) : Type 0 where

@@ -10,7 +10,6 @@ pub mod Selecting
 pub mod Filing
 pub mod Spelling
 pub mod Calls
-pub mod Jobs
 pub mod Parts
 pub mod SplitJobs
 pub mod Fitting

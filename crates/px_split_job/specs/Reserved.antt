@@ -1,5 +1,5 @@
 -- The reserved words (JLS SE 8, 3.9 and 3.10).
-use Rattle.std.specs.Prelude.{ℕ, Bool, ◌||◌, List, [], ◌∷◌, codes}
+use Rattle.std.specs.Prelude.{ℕ, Bool, List, [], ◌∷◌, codes}
 use Rattle.std.specs.List.{list_any}
 use Rattle.std.specs.Str.{bytes_eq}
 
@@ -18,10 +18,6 @@ abbrev pub unread_words : List (List ℕ)
 unread_words =
     codes "sessions" ∷ codes "workers" ∷ codes "retries" ∷ codes "alpha" ∷ codes "latency" ∷ codes "perbyte" ∷ codes "profile" ∷ codes "row" ∷ codes "load" ∷ codes "order" ∷ []
 
--- the first words of the lines about parts
-abbrev pub part_words : List (List ℕ)
-part_words = codes "part" ∷ codes "app" ∷ codes "db" ∷ []
-
 abbrev pub is_among : List (List ℕ) → List ℕ → Bool
 is_among words word = list_any (λ other. bytes_eq other word) words
 
@@ -30,9 +26,3 @@ is_reserved word = is_among reserved_words word
 
 unfoldable pub is_unread : List ℕ → Bool
 is_unread word = is_among unread_words word
-
-unfoldable pub is_part_word : List ℕ → Bool
-is_part_word word = is_among part_words word
-
-abbrev pub is_later : List ℕ → Bool
-is_later word = is_unread word || is_part_word word

@@ -20,12 +20,6 @@ pub struct Call {
     pub args: Values,
 }
 
-/// The calls of a file, in its order.
-#[derive(Drop)]
-pub struct Job {
-    pub calls: Items<Call>,
-}
-
 /// How a program is split.
 #[derive(Drop)]
 pub struct Part {

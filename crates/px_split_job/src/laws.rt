@@ -1,6 +1,6 @@
 //! Laws of what the reader's contract says.
 
-ghost use Rattle.px_split_job.specs.Fitting.{CallsFit, SplitJobsFit};
+ghost use Rattle.px_split_job.specs.Fitting.{SplitJobsFit};
 ghost use Rattle.px_split_job.specs.Filing.{LinesAreFiled};
 ghost use Rattle.px_split_job.specs.Spelling.{WordsAreSpelled};
 
@@ -14,12 +14,8 @@ pub fn words_are_spelled()
     ensures { WordsAreSpelled }
 {}
 
-/// Each call of a job is of an entry that there is, and has arguments of its parameters' types.
-pub fn calls_fit()
-    ensures { CallsFit }
-{}
-
-/// The same of a job with a part, which has one side for each node of the program.
+/// Each call of a job is of an entry that there is, and has arguments of its parameters' types; the part has one side for each node of
+/// the program.
 pub fn split_jobs_fit()
     ensures { SplitJobsFit }
 {}

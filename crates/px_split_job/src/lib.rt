@@ -1,4 +1,4 @@
-//! A file of calls: its lines, and what they mean for a program's entries and its code.
+//! A job of `solo`: its lines, and what they mean for a program's entries and its code.
 #![tactic(auto)]
 
 mod arguments;
@@ -12,7 +12,6 @@ mod lines;
 mod names;
 mod parts;
 mod places;
-mod read;
 mod reserved;
 mod split;
 mod statements;
@@ -22,7 +21,6 @@ mod texts;
 mod titles;
 mod words;
 
-pub use job::{Call, Job, JobCode, JobError, JobFault, Part, SplitJob};
-pub use laws::{calls_fit, lines_are_filed, split_jobs_fit, words_are_spelled};
-pub use read::read_job;
+pub use job::{Call, JobCode, JobError, JobFault, Part, SplitJob};
+pub use laws::{lines_are_filed, split_jobs_fit, words_are_spelled};
 pub use split::read_split_job;

@@ -3,7 +3,7 @@
 ghost use Rattle.std.specs.Prelude.{◌≡◌};
 ghost use Rattle.std.specs.List.{list_any};
 ghost use Rattle.std.specs.Str.{bytes_eq};
-ghost use Rattle.px_split_job.specs.Reserved.{is_reserved, is_unread, is_part_word, is_later};
+ghost use Rattle.px_split_job.specs.Reserved.{is_reserved, is_unread};
 
 // The keywords of Java, and `true`, `false` and `null`.
 const RESERVED: [&[u8]; 53] = [
@@ -76,8 +76,6 @@ const UNREAD: [&[u8]; 10] = [
     b"order",
 ];
 
-const PART_WORDS: [&[u8]; 3] = [b"part", b"app", b"db"];
-
 /// Whether the word is no identifier for its meaning in Java.
 pub(crate) fn is_reserved(word: &[u8]) -> bool
     ensures { result ≡ is_reserved word.now }
@@ -90,19 +88,6 @@ pub(crate) fn is_unread(word: &[u8]) -> bool
     ensures { result ≡ is_unread word.now }
 {
     is_among(&UNREAD, word)
-}
-
-fn is_part_word(word: &[u8]) -> bool
-    ensures { result ≡ is_part_word word.now }
-{
-    is_among(&PART_WORDS, word)
-}
-
-/// Whether a file of calls alone doesn't have lines that begin with the word yet.
-pub(crate) fn is_later(word: &[u8]) -> bool
-    ensures { result ≡ is_later word.now }
-{
-    is_unread(word) || is_part_word(word)
 }
 
 fn is_among(words: &[&[u8]], word: &[u8]) -> bool

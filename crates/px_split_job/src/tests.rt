@@ -1,6 +1,7 @@
 mod split;
 
-use crate::{Job, JobCode, JobError, JobFault, read_job};
+use crate::{JobCode, JobError, JobFault, SplitJob, read_split_job};
+use px_code::Code;
 use px_types::Entry;
 use px_value::{Text, Ty, Value};
 use sqlite_items::Items;
@@ -27,11 +28,18 @@ fn entries(alloc: Global) -> Result<Vec<Entry>, AllocError> {
 }
 
 // A test's texts are short.
-fn read(alloc: Global, text: &[u8], entries: &[Entry]) -> Result<Job, JobError> {
+fn read(alloc: Global, text: &[u8], entries: &[Entry]) -> Result<SplitJob, JobError> {
     if text.len() >= 1 << 31 {
         return Err(JobError::NoMemory);
     }
-    read_job(alloc, text, entries)
+    let code = Code {
+        main: 0,
+        classes: Items::new(alloc),
+        methods: Items::new(alloc),
+        sites: Items::new(alloc),
+        nodes: Items::new(alloc),
+    };
+    read_split_job(alloc, text, entries, &code)
 }
 
 // Each of the texts is refused at the line with the code.
@@ -174,7 +182,7 @@ fn later_is_told(rt: HostRuntime) -> Result<(), Fail> {
     all_refused(&rt, alloc, 3, JobCode::Later, &texts)?;
     let texts: [&[u8]; 1] = [b"frob\n  sessions \xff"];
     all_refused(&rt, alloc, 2, JobCode::Later, &texts)?;
-    let texts: [&[u8]; 2] = [b"load\nrow t 1", b"part\r\n"];
+    let texts: [&[u8]; 1] = [b"load\nrow t 1"];
     all_refused(&rt, alloc, 1, JobCode::Later, &texts)?;
     Ok(())
 }

@@ -2,7 +2,7 @@
 
 ghost use Rattle.std.specs.Prelude.{◌≡◌, ◌≤◌, ◌<◌, ◌+◌, ◌∷◌, List, ℕ, length, take, drop, [], false, MatchOption, IfSome};
 ghost use Rattle.px_split_job.specs.Lines.{begins_with};
-ghost use Rattle.px_split_job.specs.Words.{place_after, is_between, words_from, words_of};
+ghost use Rattle.px_split_job.specs.Words.{place_after, is_between, words_from, words_of, first};
 
 /// Where a line stands.
 #[derive(Clone, Copy)]
@@ -80,4 +80,14 @@ fn word_len(line: &[u8]) -> usize
         len += 1;
     }
     len
+}
+
+/// The first word of the line, empty where there is none.
+pub(crate) fn first_word(line: &[u8]) -> &[u8]
+    ensures { result.now ≡ first (words_of line.now) }
+{
+    match split_word(line) {
+        Some((word, _)) => word,
+        None => &[],
+    }
 }
