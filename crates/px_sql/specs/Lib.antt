@@ -1,0 +1,5 @@
+pub mod Tables
+pub mod Words
+pub mod Spelling
+pub mod Reading
+pub mod Parameters
