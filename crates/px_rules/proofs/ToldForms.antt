@@ -9,10 +9,10 @@ use Rattle.px_tree.specs.declared.Stmt.{Stmt, fold_out-Stmt}
 use Rattle.px_tree.specs.declared.StmtForm.{StmtForm, StmtForm-F, fold-StmtForm, fold-roll-StmtForm, roll-StmtForm, map-StmtForm}
 use Rattle.px_tree.specs.declared.StmtForm.TheVariants.{Block, rolls-Block, Empty, rolls-Empty, Local, rolls-Local, Assign, rolls-Assign, Compound, rolls-Compound, Up, rolls-Up, Down, rolls-Down, Call, rolls-Call, If, rolls-If, While, rolls-While, For, rolls-For, Return, rolls-Return, Print, rolls-Print}
 use Rattle.px_tree.specs.declared.StmtForm.TheOpen.{StmtForm-F as f}
-use Rattle.px_facts.specs.declared.checked.Fact.{Fact}
+use Rattle.px_rules.specs.declared.node.Node.{Node}
 use Rattle.px_rules.specs.declared.home.Home.{Home}
 use Rattle.px_rules.specs.declared.scope.Scope.{Scope}
-use Rattle.px_rules.specs.Known.{known, all_facts}
+use Rattle.px_rules.specs.Known.{known, fact_only, all_nodes}
 use Rattle.px_rules.specs.Facts.{no_fact}
 use Rattle.px_rules.proofs.KnownForms.{both_added}
 use Rattle.px_rules.specs.Told.{Tells, told, told_step, whole, plain, block_told, local_told, assign_told, change_told, value_told, return_told, if_told, while_told, for_told}
@@ -36,7 +36,7 @@ told_local c s l of name value h = told_at c s (f.Local of name value) l (h ∙ 
 pub told_assign : (c : Home) (s : Stmt) (l : Scope) (place value : Expr) → s.form ≡ Assign place value → told c s l ≡ assign_told c place value l
 told_assign c s l place value h = told_at c s (f.Assign place value) l (h ∙ sym (rolls-Assign place value))
 
-pub told_compound : (c : Home) (s : Stmt) (l : Scope) (name : Name) (sign : Sign) (value : Expr) → s.form ≡ Compound name sign value → told c s l ≡ change_told name (all_facts (known c value l)) l
+pub told_compound : (c : Home) (s : Stmt) (l : Scope) (name : Name) (sign : Sign) (value : Expr) → s.form ≡ Compound name sign value → told c s l ≡ change_told name (all_nodes (known c value l)) l
 told_compound c s l name sign value h = told_at c s (f.Compound name sign value) l (h ∙ sym (rolls-Compound name sign value))
 
 pub told_up : (c : Home) (s : Stmt) (l : Scope) (name : Name) → s.form ≡ Up name → told c s l ≡ change_told name [] l
@@ -68,7 +68,7 @@ pub ruleset forms = (told_block, told_empty, told_local, told_assign, told_compo
 
 -- ---- one part after another
 
-pub then_added : {A E : Type 0} (r : Result A E) (f0 f1 f2 xs ys : List Fact) → f1 ≡ f0 ++ xs → OnOk r (f2 ≡ f1 ++ ys) → OnOk r (f2 ≡ f0 ++ (xs ++ ys))
+pub then_added : {A E : Type 0} (r : Result A E) (f0 f1 f2 xs ys : List Node) → f1 ≡ f0 ++ xs → OnOk r (f2 ≡ f1 ++ ys) → OnOk r (f2 ≡ f0 ++ (xs ++ ys))
 then_added (Ok a) f0 f1 f2 xs ys h k = both_added f0 f1 f2 xs ys h k
 then_added (Err e) f0 f1 f2 xs ys h k = tt
 
@@ -80,18 +80,18 @@ same_on (Err e) a b c h k = tt
 pub for_scopes : (first last body : Tells) (l0 l1 l2 l3 : Scope) → l1 ≡ (first l0).scope → l2 ≡ (last l1).scope → l3 ≡ (body l2).scope → l3 ≡ (body (last (first l0).scope).scope).scope
 for_scopes first last body l0 l1 l2 l3 e1 e2 e3 = e3 ∙ (λ i. (body (e2 i)).scope) ∙ (λ i. (body (last (e1 i)).scope).scope)
 
-pub for_facts : (c : Home) (first last body : Tells) (test : Expr) (l0 l1 l2 : Scope) (f0 f1 f2 f3 f4 f5 : List Fact)
-    → f1 ≡ f0 ++ no_fact ∷ [] → l1 ≡ (first l0).scope → f2 ≡ f1 ++ (first l0).facts → f3 ≡ f2 ++ all_facts (known c test l1)
-    → l2 ≡ (last l1).scope → f4 ≡ f3 ++ (last l1).facts → f5 ≡ f4 ++ (body l2).facts
-    → f5 ≡ f0 ++ (for_told c first test last body l0).facts
-for_facts c first last body test l0 l1 l2 f0 f1 f2 f3 f4 f5 n0 e1 n1 n2 e2 n3 n4 =
-    let f = (first l0).facts in
-    let t = all_facts (known c test l1) in
-    let l = (last l1).facts in
-    let b = (body l2).facts in
-    both_added f0 f1 f5 (no_fact ∷ []) (f ++ (t ++ (l ++ b))) n0
+pub for_nodes : (c : Home) (first last body : Tells) (test : Expr) (l0 l1 l2 : Scope) (f0 f1 f2 f3 f4 f5 : List Node)
+    → f1 ≡ f0 ++ fact_only no_fact ∷ [] → l1 ≡ (first l0).scope → f2 ≡ f1 ++ (first l0).nodes → f3 ≡ f2 ++ all_nodes (known c test l1)
+    → l2 ≡ (last l1).scope → f4 ≡ f3 ++ (last l1).nodes → f5 ≡ f4 ++ (body l2).nodes
+    → f5 ≡ f0 ++ (for_told c first test last body l0).nodes
+for_nodes c first last body test l0 l1 l2 f0 f1 f2 f3 f4 f5 n0 e1 n1 n2 e2 n3 n4 =
+    let f = (first l0).nodes in
+    let t = all_nodes (known c test l1) in
+    let l = (last l1).nodes in
+    let b = (body l2).nodes in
+    both_added f0 f1 f5 (fact_only no_fact ∷ []) (f ++ (t ++ (l ++ b))) n0
     (both_added f1 f2 f5 f (t ++ (l ++ b)) n1
     (both_added f2 f3 f5 t (l ++ b) n2
     (both_added f3 f4 f5 l b n3 n4)))
-    ∙ (λ i. f0 ++ no_fact ∷ (f ++ (t ++ (l ++ (body (e2 i)).facts))))
-    ∙ (λ i. f0 ++ no_fact ∷ (f ++ (all_facts (known c test (e1 i)) ++ ((last (e1 i)).facts ++ (body (last (e1 i)).scope).facts))))
+    ∙ (λ i. f0 ++ fact_only no_fact ∷ (f ++ (t ++ (l ++ (body (e2 i)).nodes))))
+    ∙ (λ i. f0 ++ fact_only no_fact ∷ (f ++ (all_nodes (known c test (e1 i)) ++ ((last (e1 i)).nodes ++ (body (last (e1 i)).scope).nodes))))

@@ -7,7 +7,8 @@ use Rattle.px_tree.specs.declared.Member.TheVariants as member
 use Rattle.px_tree.specs.declared.Class.{Class}
 use Rattle.px_rules.specs.declared.table.Table.{Table}
 use Rattle.px_rules.specs.declared.classes.Members.{Members}
-use Rattle.px_facts.specs.declared.checked.Fact.{Fact}
+use Rattle.px_value.specs.declared.schema.Schema.{Schema}
+use Rattle.px_rules.specs.declared.node.Node.{Node}
 use Rattle.px_facts.specs.declared.checked.MethodFact.{MethodFact}
 use Rattle.px_rules.specs.declared.home.Home.{Home}
 use Rattle.px_rules.specs.declared.scope.Scope.{Scope}
@@ -20,8 +21,8 @@ abbrev pub firsts_from : ℕ → List Members → List ℕ
 firsts_from first [] = []
 firsts_from first (ms ∷ all) = first ∷ firsts_from (first + length ms.methods.names) all
 
-abbrev pub home_of : List Class → Home
-home_of classes = record { classes = classes_of classes; firsts = firsts_from 1 (classes_of classes).members; this = 0 }
+abbrev pub home_of : Schema → List Class → Home
+home_of schema classes = record { classes = classes_of schema classes; firsts = firsts_from 1 (classes_of schema classes).members; this = 0 }
 
 -- the parameters, behind the locals in scope
 abbrev pub with_params : Table ℕ → Scope → List Param → Scope
@@ -41,7 +42,7 @@ method_known home m = record {
 
 -- what is known of members, classes and what is in them
 pub record Found : Type 0 where
-  pub nodes : List Fact
+  pub nodes : List Node
   pub methods : List MethodFact
 
 abbrev pub nothing_found : Found
@@ -52,7 +53,7 @@ both a b = record { nodes = a.nodes ++ b.nodes; methods = a.methods ++ b.methods
 
 abbrev pub member_found : Home → Member → Found
 member_found home (member.Field f) = nothing_found
-member_found home (member.Method m) = record { nodes = (told_body home m).facts; methods = method_known home m ∷ [] }
+member_found home (member.Method m) = record { nodes = (told_body home m).nodes; methods = method_known home m ∷ [] }
 
 abbrev pub class_found : Home → List Member → Found
 class_found home [] = nothing_found

@@ -14,7 +14,7 @@ abbrev pub breach_if : Bool → ℕ → ℕ → List Note
 breach_if true token code = Fault token code ∷ []
 breach_if false token code = []
 
--- the `new` expressions and the methods that a program may have
+-- the `new` expressions with the calls of `Db`, and the methods that a program may have
 abbrev pub max_news : ℕ
 max_news = 10000
 
@@ -24,7 +24,7 @@ max_methods = 2000
 abbrev pub at : ℕ → ℕ → Breach
 at token code = record { token = token; code = code }
 
--- The breaches, behind as many `new` expressions and methods. One that stands behind as many as there may be breaks rule 17.
+-- The breaches, behind as many `new` expressions and calls of `Db`, and methods. One that stands behind as many as there may be breaks rule 17.
 abbrev pub breaches : ℕ → ℕ → List Note → List Breach
 breaches news methods [] = []
 breaches news methods (Fault token code ∷ notes) = at token code ∷ breaches news methods notes

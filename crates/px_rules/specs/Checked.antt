@@ -2,6 +2,7 @@
 use Rattle.std.specs.Prelude.{ℕ, List, Option, Some, None, map, slice_get}
 use Rattle.std.specs.Option.{option_map}
 use Rattle.px_lex.specs.declared.token.Token.{Token}
+use Rattle.px_value.specs.declared.schema.Schema.{Schema}
 use Rattle.px_tree.specs.declared.Program.{Program}
 use Rattle.px_tree.specs.declared.Class.{Class}
 use Rattle.px_rules.specs.declared.breach.Breach.{Breach}
@@ -12,13 +13,14 @@ use Rattle.px_facts.specs.declared.checked.ClassFact.{ClassFact}
 use Rattle.px_facts.specs.declared.checked.Facts.{Facts}
 use Rattle.px_facts.specs.declared.checked.Main.{Main}
 use Rattle.px_rules.specs.declared.bodies.Known.{Known}
+use Rattle.px_rules.specs.declared.bodies.Numbered.{Numbered}
 use Rattle.px_rules.specs.declared.home.Home.{Home}
 use Rattle.px_facts.specs.declared.checked.Checked.{Checked}
 use Rattle.px_rules.specs.declared.error.CheckError.{CheckError}
 use Rattle.px_rules.specs.declared.error.CheckError.TheVariants.{TypeFault}
 use Rattle.px_rules.specs.Programs.{first_breach_of}
 use Rattle.px_rules.specs.Bodies.{Found, home_of, all_found}
-use Rattle.px_rules.specs.Sites.{sited}
+use Rattle.px_rules.specs.Sites.{sited, operations_in}
 use Rattle.px_rules.specs.Entries.{main_from}
 
 -- ---- the fault
@@ -32,8 +34,8 @@ abbrev pub fault_at : List Token → Breach → CheckError
 fault_at tokens b = TypeFault (line_in (slice_get tokens b.token)) b.code
 
 -- the first breach, with its line
-abbrev pub fault_of : Program → Option CheckError
-fault_of program = option_map (fault_at program.tokens) (first_breach_of program)
+abbrev pub fault_of : Program → Schema → Option CheckError
+fault_of program schema = option_map (fault_at program.tokens) (first_breach_of schema program)
 
 -- ---- the facts
 
@@ -43,25 +45,32 @@ type_in f = f.ty
 abbrev pub class_known : Members → ClassFact
 class_known ms = record { fields = map type_in ms.fields.values }
 
--- with the numbers of `new` expressions
-abbrev pub numbered : Known → Known
-numbered known = record known { nodes = sited 1 known.nodes }
+-- with the numbers of sites and of calls of `Db`
+abbrev pub numbered : Known → Numbered
+numbered known = record { nodes = sited 1 1 known.nodes; methods = known.methods; operations = operations_in known.nodes }
 
 abbrev pub known_from : Found → Known
 known_from found = record { nodes = found.nodes; methods = found.methods }
 
 -- the methods of all classes, and what is in them
-abbrev pub known_in : Home → List Class → Known
+abbrev pub known_in : Home → List Class → Numbered
 known_in home classes = numbered (known_from (all_found home classes))
 
-abbrev pub with_known : Known → List ClassFact → Main → Facts
-with_known known classes main = record { nodes = known.nodes; classes = classes; methods = known.methods; main = main }
+abbrev pub with_known : Numbered → List ClassFact → Main → Facts
+with_known known classes main = record {
+  nodes = known.nodes;
+  classes = classes;
+  methods = known.methods;
+  operations = known.operations;
+  main = main;
+}
 
 abbrev pub facts_in : Home → List Class → Facts
 facts_in home classes = with_known (known_in home classes) (map class_known home.classes.members) (main_from home.classes.numbers home.firsts 0 classes)
 
-unfoldable pub facts_of : Program → Facts
-facts_of program = facts_in (home_of program.classes) program.classes
+unfoldable pub facts_of : Schema → Program → Facts
+facts_of schema program = facts_in (home_of schema program.classes) program.classes
 
-abbrev pub checked_of : Program → Checked
-checked_of program = record { program = program; facts = facts_of program }
+-- the schema is that of the tables which the program declares
+abbrev pub checked_of : Program → Schema → Checked
+checked_of program schema = record { program = program; schema = schema; facts = facts_of schema program }

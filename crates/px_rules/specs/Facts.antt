@@ -6,8 +6,10 @@ use Rattle.px_facts.specs.declared.types.Ty.TheVariants as ty
 use Rattle.px_rules.specs.declared.classes.Members.{Members}
 use Rattle.px_rules.specs.declared.classes.Classes.{Classes}
 use Rattle.px_facts.specs.declared.checked.Named.{Named}
-use Rattle.px_facts.specs.declared.checked.Named.TheVariants.{Nothing, Local, Field, Method, NewObject, NewArray, ArrayLength, TextLength, TextEquals}
+use Rattle.px_facts.specs.declared.checked.Named.TheVariants.{Nothing, Local, Field, Method, NewObject, NewArray, ArrayLength, TextLength, TextEquals, Database, Query, Update, Next, GetLong, GetString}
 use Rattle.px_facts.specs.declared.checked.Fact.{Fact}
+use Rattle.px_rules.specs.declared.database.Verb.{Verb}
+use Rattle.px_rules.specs.declared.database.Verb.TheVariants as verb
 use Rattle.px_rules.specs.declared.home.Home.{Home}
 use Rattle.px_rules.specs.declared.scope.Slot.{Slot}
 use Rattle.px_rules.specs.declared.scope.Scope.{Scope}
@@ -71,6 +73,12 @@ abbrev pub numbered_method : Option ℕ → ℕ → Named
 numbered_method None place = Nothing
 numbered_method (Some first) place = Method (first + place)
 
+-- a result set's methods are `next`, `getLong` and `getString`, in this order
+abbrev pub rows_method : ℕ → Named
+rows_method zero = Next
+rows_method (suc zero) = GetLong
+rows_method (suc (suc n)) = GetString
+
 -- a String's methods are `length` and `equals`, in this order
 abbrev pub text_method : ℕ → Named
 text_method zero = TextLength
@@ -79,6 +87,7 @@ text_method (suc n) = TextEquals
 abbrev pub method_in : Home → Ty → ℕ → Named
 method_in home (ty.Object class) place = numbered_method (slice_get home.firsts class) place
 method_in home ty.Text place = text_method place
+method_in home ty.ResultSet place = rows_method place
 method_in home _ place = Nothing
 
 abbrev pub method_at : Home → Ty → Option ℕ → Named
@@ -100,3 +109,12 @@ new_fact home name = new_of (find name home.classes.numbers)
 
 abbrev pub new_array_fact : Ty → Fact
 new_array_fact t = record { ty = t; named = NewArray 0 }
+
+-- ---- calls of `Db`; their numbers are given once all facts are known
+
+abbrev pub database_fact : Fact
+database_fact = record { ty = ty.Unknown; named = Database }
+
+abbrev pub verb_fact : Verb → Fact
+verb_fact verb.Query = record { ty = ty.ResultSet; named = Query 0 0 }
+verb_fact verb.Update = record { ty = ty.Int; named = Update 0 }

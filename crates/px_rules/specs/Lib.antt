@@ -4,6 +4,7 @@ pub mod Literals
 pub mod Names
 pub mod Members
 pub mod Scopes
+pub mod Database
 pub mod Expressions
 pub mod Statements
 pub mod Methods

@@ -13,12 +13,14 @@ use Rattle.px_tree.specs.declared.FieldDecl.{FieldDecl}
 use Rattle.px_tree.specs.declared.Member.{Member}
 use Rattle.px_tree.specs.declared.Member.TheVariants as member
 use Rattle.px_tree.specs.declared.Class.{Class}
+use Rattle.px_value.specs.declared.schema.Schema.{Schema}
 use Rattle.px_facts.specs.declared.types.Ty.{Ty}
-use Rattle.px_facts.specs.declared.types.Ty.TheVariants.{Unknown, Void, Int, Long, Boolean, Text, Object, Array}
+use Rattle.px_facts.specs.declared.types.Ty.TheVariants.{Unknown, Void, Int, Long, Boolean, Text, Object, Array, ResultSet}
 use Rattle.px_rules.specs.declared.table.Table.{Table}
 use Rattle.px_rules.specs.declared.classes.FieldType.{FieldType}
 use Rattle.px_rules.specs.declared.classes.MethodType.{MethodType}
 use Rattle.px_rules.specs.declared.classes.Members.{Members}
+use Rattle.px_rules.specs.declared.classes.Library.{Library}
 use Rattle.px_rules.specs.declared.classes.Classes.{Classes}
 use Rattle.px_rules.specs.Breaches.{Note, breach_if}
 use Rattle.px_rules.specs.Names.{empty, declare, find}
@@ -30,13 +32,12 @@ abbrev pub class_type : Option ℕ → Ty
 class_type None = Unknown
 class_type (Some number) = Object number
 
--- tables aren't built yet, and so a result set is unknown
 abbrev pub base_type : Table ℕ → Base → Ty
 base_type numbers base.Int = Int
 base_type numbers base.Long = Long
 base_type numbers base.Boolean = Boolean
 base_type numbers base.Str = Text
-base_type numbers base.ResultSet = Unknown
+base_type numbers base.ResultSet = ResultSet
 base_type numbers (base.Class name) = class_type (find name.bytes numbers)
 
 abbrev pub type_of : Table ℕ → TypeName → Ty
@@ -101,6 +102,23 @@ length_field = record { access = Plain; ty = Int }
 abbrev pub array_members : Members
 array_members = record { fields = declare (codes "length") length_field empty; methods = empty }
 
+-- a result set has the methods `next()`, `getLong(i)` and `getString(i)`
+abbrev pub next_method : MethodType
+next_method = record { access = Plain; params = []; result = Boolean }
+
+-- a method that takes the number of a column
+abbrev pub column_method : Ty → MethodType
+column_method gives = record { access = Plain; params = Int ∷ []; result = gives }
+
+abbrev pub rows_members : Members
+rows_members = record {
+  fields = empty;
+  methods = declare (codes "getString") (column_method Text) (declare (codes "getLong") (column_method Long) (declare (codes "next") next_method empty));
+}
+
+abbrev pub library_of : Schema → Library
+library_of schema = record { text = text_members; array = array_members; rows = rows_members; schema = schema }
+
 -- classes by name, each with its place in the file
 abbrev pub numbered : ℕ → Table ℕ → List Class → Table ℕ
 numbered number numbers [] = numbers
@@ -109,21 +127,21 @@ numbered number numbers (c ∷ cs) = numbered (number + 1) (declare c.name.bytes
 abbrev pub numbers_of : List Class → Table ℕ
 numbers_of classes = numbered 0 empty classes
 
--- all classes of a program
-abbrev pub classes_of : List Class → Classes
-classes_of classes = record {
+-- all classes of a program, and what it declares beside them
+abbrev pub classes_of : Schema → List Class → Classes
+classes_of schema classes = record {
   numbers = numbers_of classes;
   members = map (class_members (numbers_of classes)) classes;
-  text = text_members;
-  array = array_members;
+  library = library_of schema;
 }
 
 -- ---- members of a type
 
 abbrev pub members_of : Ty → Classes → Option Members
 members_of (Object number) classes = slice_get classes.members number
-members_of Text classes = Some classes.text
-members_of (Array e) classes = Some classes.array
+members_of Text classes = Some classes.library.text
+members_of (Array e) classes = Some classes.library.array
+members_of ResultSet classes = Some classes.library.rows
 members_of _ classes = None
 
 abbrev pub field_of : Ty → List ℕ → Classes → Option FieldType

@@ -2,6 +2,7 @@
 use Rattle.std.specs.Prelude.{ℕ, ◌+◌, ◌-◌, true, not, List, [], ◌∷◌, ◌++◌, length, Option, None, nat_lt, codes, if◌then◌else◌}
 use Rattle.std.specs.Str.{bytes_eq}
 use Rattle.px_lex.specs.declared.token.Token.{Token}
+use Rattle.px_value.specs.declared.schema.Schema.{Schema}
 use Rattle.px_tree.specs.declared.Program.{Program}
 use Rattle.px_tree.specs.declared.Class.{Class}
 use Rattle.px_tree.specs.declared.FieldDecl.{FieldDecl}
@@ -106,18 +107,18 @@ main_notes numbers end (c ∷ cs) = if bytes_eq c.name.bytes (codes "Main") then
 abbrev pub no_report : Report
 no_report = record { first = None; news = 0; methods = 0 }
 
--- what is found in a program
-abbrev pub notes_of : Program → List Note
-notes_of program =
-    let classes = classes_of program.classes in
+-- what is found in a program over these tables
+abbrev pub notes_of : Schema → Program → List Note
+notes_of schema program =
+    let classes = classes_of schema program.classes in
     declared_notes program.classes
     ++ (main_notes classes.numbers (end_token program.tokens) program.classes
     ++ bodies classes 0 program.classes)
 
 -- all breaches of a program
-abbrev pub breaches_of : Program → List Breach
-breaches_of program = breaches 0 0 (notes_of program)
+abbrev pub breaches_of : Schema → Program → List Breach
+breaches_of schema program = breaches 0 0 (notes_of schema program)
 
 -- the breach at the first token, and there the one with the smallest code
-unfoldable pub first_breach_of : Program → Option Breach
-first_breach_of program = least None (breaches_of program)
+unfoldable pub first_breach_of : Schema → Program → Option Breach
+first_breach_of schema program = least None (breaches_of schema program)

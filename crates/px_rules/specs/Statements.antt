@@ -18,6 +18,7 @@ use Rattle.px_facts.specs.Types.{is_unknown, is_void, is_number, is_array, is_pr
 use Rattle.px_rules.specs.Operators.{group_of, compound_fits}
 use Rattle.px_rules.specs.Members.{type_of, names_no_class}
 use Rattle.px_rules.specs.Scopes.{with_local, all_usable, left, local_notes, local_type, or_unknown}
+use Rattle.px_rules.specs.Database.{Other}
 use Rattle.px_rules.specs.Expressions.{Typed, misfit, field, typed}
 
 -- what is found in a statement, the locals in scope behind it, and whether it can complete normally (JLS 14.21)
@@ -83,7 +84,7 @@ unknown_if false t = t
 abbrev pub assigned_field : Context → Typed → Name → Typed
 assigned_field context of name =
     let f = field context of name in
-    record { ty = unknown_if (is_array of.ty) f.ty; notes = f.notes ++ breach_if (is_array of.ty) name.token 4 }
+    record { ty = unknown_if (is_array of.ty) f.ty; notes = f.notes ++ breach_if (is_array of.ty) name.token 4; written = Other }
 
 abbrev pub place_of_form : Context → ExprForm-F ExprForm Expr → Typed → Locals → Typed
 place_of_form context (e.Field of name) x locals = assigned_field context (typed context of false locals) name

@@ -6,9 +6,10 @@ ghost use Rattle.px_rules.specs.Slots.{first_scope};
 use crate::declare::param_types;
 use crate::home::Home;
 use crate::members::{result_type, type_of};
+use crate::node::Node;
 use crate::numbers::narrow;
 use crate::scope::Scope;
-use px_facts::{Fact, MethodFact};
+use px_facts::{Fact, MethodFact, Operation};
 use px_tree::{Class, Member, Method, Param};
 use sqlite_items::Items;
 use std::alloc::{AllocError, Global};
@@ -16,8 +17,16 @@ use std::alloc::{AllocError, Global};
 /// What is known of statements and expressions, and of methods.
 #[derive(Drop)]
 pub struct Known {
+    pub nodes: Items<Node>,
+    pub methods: Items<MethodFact>,
+}
+
+/// The same with the numbers of sites and of calls of `Db`, and what these ask for.
+#[derive(Drop)]
+pub struct Numbered {
     pub nodes: Items<Fact>,
     pub methods: Items<MethodFact>,
+    pub operations: Items<Operation>,
 }
 
 impl Home {
@@ -58,7 +67,7 @@ impl Home {
     }
 
     fn body(&self, alloc: Global, known: &mut Known, m: &Method) -> Result<(), AllocError>
-        ensures nodes { OnOk result (known.new.nodes ≡ known.old.nodes ++ (bodies.told_body self.now m.now).facts) }
+        ensures nodes { OnOk result (known.new.nodes ≡ known.old.nodes ++ (bodies.told_body self.now m.now).nodes) }
         ensures methods { OnOk result (known.new.methods ≡ known.old.methods ++ bodies.method_known self.now m.now ∷ []) }
     {
         let mut scope = self.params(alloc, m.params.as_slice())?;

@@ -1,8 +1,9 @@
-//! The classes of a program, and their members by name.
+//! The classes of a program, their members by name, and what else names may stand for.
 use crate::table::Table;
 use px_facts::Ty;
 use px_tree::Access;
-use sqlite_items::Items;
+use px_value::Schema;
+use sqlite_items::{Boxed, Items};
 
 #[derive(Clone, Copy, Debug)]
 pub struct FieldType {
@@ -30,8 +31,17 @@ pub struct Classes {
     pub numbers: Table<usize>,
     /// Of each class, in the order of the file.
     pub members: Items<Members>,
+    pub library: Boxed<Library>,
+}
+
+/// The members of types that are no classes, and the tables.
+#[derive(Drop)]
+pub struct Library {
     /// The members of a String.
     pub text: Members,
     /// The members of an array.
     pub array: Members,
+    /// The members of a result set.
+    pub rows: Members,
+    pub schema: Schema,
 }

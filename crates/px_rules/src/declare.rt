@@ -5,14 +5,16 @@ ghost use Rattle.px_rules.specs.Names as names;
 ghost use Rattle.px_rules.specs.Programs as programs;
 ghost use Rattle.px_rules.specs.Breaches.{after};
 
-use crate::classes::{Classes, FieldType, Members, MethodType};
+use crate::classes::{Classes, FieldType, Library, Members, MethodType};
 use crate::members::{check_base, result_type, type_of};
 use crate::names::is_reserved;
 use crate::report::Report;
+use crate::schema::copy_schema;
 use crate::table::Table;
 use px_facts::Ty;
 use px_tree::{Access, Class, FieldDecl, Member, Method, Param};
-use sqlite_items::Items;
+use px_value::Schema;
+use sqlite_items::{Boxed, Items};
 use std::alloc::{AllocError, Global};
 
 const MAX_CLASSES: usize = 500;
@@ -24,19 +26,32 @@ const MAX_FIELDS: usize = 200;
 pub fn declare_classes(
     alloc: Global,
     report: &mut Report,
+    schema: &Schema,
     classes: &[Class],
 ) -> Result<Classes, AllocError>
-    ensures classes { IfOk result (λ found. found ≡ members.classes_of classes.now) }
+    ensures classes { IfOk result (λ found. found ≡ members.classes_of schema.now classes.now) }
     ensures notes { OnOk result (report.new ≡ after report.old (programs.declared_notes classes.now)) }
 {
     let numbers = number_classes(alloc, report, classes)?;
     let members = declare_all(alloc, report, &numbers, classes)?;
+    let library = declare_library(alloc, schema)?;
     Ok(Classes {
         numbers,
         members,
+        library,
+    })
+}
+
+fn declare_library(alloc: Global, schema: &Schema) -> Result<Boxed<Library>, AllocError>
+    ensures { IfOk result (λ library. library ≡ members.library_of schema.now) }
+{
+    let library = Library {
         text: text_members(alloc)?,
         array: array_members(alloc)?,
-    })
+        rows: rows_members(alloc)?,
+        schema: copy_schema(alloc, schema)?,
+    };
+    Boxed::new(alloc, library)
 }
 
 #[tactic(auto, using(crate::proofs::Notes::after_append))]
@@ -215,4 +230,35 @@ fn array_members(alloc: Global) -> Result<Members, AllocError>
     };
     array.fields.declare(alloc, "length".as_bytes(), length)?;
     Ok(array)
+}
+
+fn rows_members(alloc: Global) -> Result<Members, AllocError>
+    ensures { IfOk result (λ found. found ≡ members.rows_members) }
+{
+    let mut rows = Members::new(alloc);
+    let next = MethodType {
+        access: Access::Plain,
+        params: Items::new(alloc),
+        result: Ty::Boolean,
+    };
+    rows.methods.declare(alloc, "next".as_bytes(), next)?;
+    let get_long = column_method(alloc, Ty::Long)?;
+    rows.methods.declare(alloc, "getLong".as_bytes(), get_long)?;
+    let get_string = column_method(alloc, Ty::Text)?;
+    rows.methods
+        .declare(alloc, "getString".as_bytes(), get_string)?;
+    Ok(rows)
+}
+
+// A method that takes the number of a column.
+fn column_method(alloc: Global, gives: Ty) -> Result<MethodType, AllocError>
+    ensures { IfOk result (λ found. found ≡ members.column_method gives) }
+{
+    let mut params = Items::new(alloc);
+    params.push(Ty::Int)?;
+    Ok(MethodType {
+        access: Access::Plain,
+        params,
+        result: gives,
+    })
 }

@@ -1,12 +1,13 @@
 //! The types of expressions, and the rules that they break.
-ghost use Rattle.std.specs.Prelude.{◌≡◌, map, slice_index_or};
-ghost use Rattle.px_facts.specs.declared.types.Ty as Ty;
+ghost use Rattle.std.specs.Prelude.{◌≡◌, map, IfOk, OnOk};
 ghost use Rattle.px_rules.specs.Breaches.{after};
+ghost use Rattle.px_rules.specs.Database as database;
 ghost use Rattle.px_rules.specs.Scopes as scopes;
 ghost use Rattle.px_rules.specs.Expressions as expressions;
 ghost use Rattle.px_rules.specs.Expressions.{typed, typed_form, of_type};
 
 use crate::context::Context;
+use crate::database::{Verb, all_fit, asked, asked_operation, literal, verb_type, wanted_at};
 use crate::literal::{is_in_range, literal_type};
 use crate::locals::Locals;
 use crate::members::{base_type, check_access, check_base, check_class, class_type};
@@ -16,6 +17,8 @@ use crate::operators::{
 use crate::report::Report;
 use px_facts::{Ty, fits};
 use px_tree::{Expr, ExprForm, Name, Sign};
+use sqlite_items::Items;
+use std::alloc::{AllocError, Global};
 
 const MAX_TEXT: usize = 500;
 
@@ -23,66 +26,83 @@ impl Context {
     /// The type of an expression. `negated` tells whether it stands right after a minus.
     #[cycle(expression)]
     #[tactic(auto, using(crate::proofs::Forms::forms, crate::proofs::Notes::after_append))]
-    pub fn expression(&self, locals: &Locals, report: &mut Report, e: &Expr, negated: bool) -> Ty
-        ensures ty { result ≡ (typed self.now e.now negated locals.now).ty }
-        ensures notes { report.new ≡ after report.old (typed self.now e.now negated locals.now).notes }
+    pub fn expression(
+        &self,
+        alloc: Global,
+        locals: &Locals,
+        report: &mut Report,
+        e: &Expr,
+        negated: bool,
+    ) -> Result<Ty, AllocError>
+        ensures ty { IfOk result (λ ty. ty ≡ (typed self.now e.now negated locals.now).ty) }
+        ensures notes { OnOk result (report.new ≡ after report.old (typed self.now e.now negated locals.now).notes) }
     {
-        self.form(locals, report, &e.form, e.token, negated)
+        self.form(alloc, locals, report, &e.form, e.token, negated)
     }
 
     #[cycle(expression)]
     #[tactic(auto, using(crate::proofs::Forms::forms, crate::proofs::Notes::after_append))]
     fn form(
         &self,
+        alloc: Global,
         locals: &Locals,
         report: &mut Report,
         form: &ExprForm,
         token: u32,
         negated: bool,
-    ) -> Ty
-        ensures ty { result ≡ (typed_form self.now form.now token negated locals.now).ty }
-        ensures notes { report.new ≡ after report.old (typed_form self.now form.now token negated locals.now).notes }
+    ) -> Result<Ty, AllocError>
+        ensures ty { IfOk result (λ ty. ty ≡ (typed_form self.now form.now token negated locals.now).ty) }
+        ensures notes { OnOk result (report.new ≡ after report.old (typed_form self.now form.now token negated locals.now).notes) }
     {
         match form {
-            ExprForm::Number { digits, long } => {
-                number(report, digits.as_slice(), *long, token, negated)
-            }
-            ExprForm::Str(bytes) => text(report, bytes.as_slice(), token),
-            ExprForm::True | ExprForm::False => Ty::Boolean,
-            ExprForm::Null => Ty::Null,
-            ExprForm::This => Ty::Object(self.this),
-            ExprForm::Name(name) => self.name(locals, report, name),
-            ExprForm::Group(inner) => self.expression(locals, report, inner.get(), false),
+            ExprForm::Number { digits, long } => Ok(number(
+                report,
+                digits.as_slice(),
+                *long,
+                token,
+                negated,
+            )),
+            ExprForm::Str(bytes) => Ok(text(report, bytes.as_slice(), token)),
+            ExprForm::True | ExprForm::False => Ok(Ty::Boolean),
+            ExprForm::Null => Ok(Ty::Null),
+            ExprForm::This => Ok(Ty::Object(self.this)),
+            ExprForm::Name(name) => Ok(self.name(locals, report, name)),
+            ExprForm::Group(inner) => self.expression(alloc, locals, report, inner.get(), false),
             ExprForm::Field { of, name } => {
-                let of = self.expression(locals, report, of.get(), negated);
-                self.field(report, of, name)
+                let of = self.expression(alloc, locals, report, of.get(), negated)?;
+                Ok(self.field(report, of, name))
             }
             ExprForm::Index { of, index } => {
-                let of = self.expression(locals, report, of.get(), negated);
-                let at = self.expression(locals, report, index.get(), false);
-                indexed(report, token, of, at)
+                let of = self.expression(alloc, locals, report, of.get(), negated)?;
+                let at = self.expression(alloc, locals, report, index.get(), false)?;
+                Ok(indexed(report, token, of, at))
             }
             ExprForm::Call { of, name, args } => match of {
-                Some(of) => {
-                    let of = self.expression(locals, report, of.get(), negated);
-                    self.call(locals, report, token, of, name, args.as_slice())
-                }
+                Some(of) => match asked(of.get(), name) {
+                    Some(verb) => {
+                        self.database_call(alloc, locals, report, token, verb, args.as_slice())
+                    }
+                    None => {
+                        let of = self.expression(alloc, locals, report, of.get(), negated)?;
+                        self.call(alloc, locals, report, token, of, name, args.as_slice())
+                    }
+                },
                 None => {
                     let of = Ty::Object(self.this);
-                    self.call(locals, report, token, of, name, args.as_slice())
+                    self.call(alloc, locals, report, token, of, name, args.as_slice())
                 }
             },
-            ExprForm::NewObject(name) => self.new_object(report, token, name),
+            ExprForm::NewObject(name) => Ok(self.new_object(report, token, name)),
             ExprForm::NewArray { base, length } => {
                 report.created(token);
                 check_base(report, &self.classes.numbers, base);
-                let length = self.expression(locals, report, length.get(), false);
+                let length = self.expression(alloc, locals, report, length.get(), false)?;
                 report.breach_if(!fits(Ty::Int, length), token, 6);
-                base_type(&self.classes.numbers, base).array()
+                Ok(base_type(&self.classes.numbers, base).array())
             }
             ExprForm::Prefix { sign, value } => {
-                let ty = self.expression(locals, report, value.get(), is_minus(*sign));
-                prefixed(report, token, *sign, ty)
+                let ty = self.expression(alloc, locals, report, value.get(), is_minus(*sign))?;
+                Ok(prefixed(report, token, *sign, ty))
             }
             ExprForm::Binary {
                 sign,
@@ -90,9 +110,9 @@ impl Context {
                 left,
                 right,
             } => {
-                let left = self.expression(locals, report, left.get(), false);
-                let right = self.expression(locals, report, right.get(), false);
-                binary(report, token, *sign, *sign_token, left, right)
+                let left = self.expression(alloc, locals, report, left.get(), false)?;
+                let right = self.expression(alloc, locals, report, right.get(), false)?;
+                Ok(binary(report, token, *sign, *sign_token, left, right))
             }
         }
     }
@@ -102,15 +122,16 @@ impl Context {
     #[tactic(auto, using(crate::proofs::Forms::forms, crate::proofs::Notes::after_append))]
     fn call(
         &self,
+        alloc: Global,
         locals: &Locals,
         report: &mut Report,
         token: u32,
         of: Ty,
         name: &Name,
         args: &[Expr],
-    ) -> Ty
-        ensures ty { result ≡ (expressions.call self.now token (of_type of) name.now (map (typed self.now) args.now) locals.now).ty }
-        ensures notes { report.new ≡ after report.old (expressions.call self.now token (of_type of) name.now (map (typed self.now) args.now) locals.now).notes }
+    ) -> Result<Ty, AllocError>
+        ensures ty { IfOk result (λ ty. ty ≡ (expressions.call self.now token (of_type of) name.now (map (typed self.now) args.now) locals.now).ty) }
+        ensures notes { OnOk result (report.new ≡ after report.old (expressions.call self.now token (of_type of) name.now (map (typed self.now) args.now) locals.now).notes) }
     {
         match self.classes.method(of, name.bytes.as_slice()) {
             Some(method) => {
@@ -118,39 +139,120 @@ impl Context {
                 check_access(report, of, self.this, method.access, name);
                 report.breach_if(!fitting, name.token, 5);
                 if fitting {
-                    self.arguments(locals, report, token, method.params.as_slice(), args);
+                    self.arguments(alloc, locals, report, token, method.params.as_slice(), args)?;
                 } else {
-                    self.arguments(locals, report, token, &[], args);
+                    self.arguments(alloc, locals, report, token, &[], args)?;
                 }
-                method.result
+                Ok(method.result)
             }
             None => {
                 report.breach_if(!of.is_unknown(), name.token, 4);
-                self.arguments(locals, report, token, &[], args);
-                Ty::Unknown
+                self.arguments(alloc, locals, report, token, &[], args)?;
+                Ok(Ty::Unknown)
             }
         }
     }
 
-    // Where no type is wanted, any value fits.
+    // A call of `Db`, which is this token.
+    #[cycle(expression)]
+    #[tactic(auto, using(crate::proofs::Forms::forms, crate::proofs::Notes::after_append))]
+    fn database_call(
+        &self,
+        alloc: Global,
+        locals: &Locals,
+        report: &mut Report,
+        database: u32,
+        verb: Verb,
+        args: &[Expr],
+    ) -> Result<Ty, AllocError>
+        ensures ty { IfOk result (λ ty. ty ≡ (expressions.database_call self.now database verb (map (typed self.now) args.now) locals.now).ty) }
+        ensures notes { OnOk result (report.new ≡ after report.old (expressions.database_call self.now database verb (map (typed self.now) args.now) locals.now).notes) }
+    {
+        report.created(database);
+        self.database_arguments(alloc, locals, report, database, verb, args)?;
+        Ok(verb_type(verb))
+    }
+
+    #[cycle(expression)]
+    #[tactic(auto, using(crate::proofs::Forms::forms, crate::proofs::Notes::after_append))]
+    fn database_arguments(
+        &self,
+        alloc: Global,
+        locals: &Locals,
+        report: &mut Report,
+        database: u32,
+        verb: Verb,
+        args: &[Expr],
+    ) -> Result<(), AllocError>
+        ensures { OnOk result (report.new ≡ after report.old (expressions.database_notes self.now.classes.library.schema database verb (map (typed self.now) args.now) locals.now)) }
+    {
+        match args {
+            [text, params @ ..] => match literal(text) {
+                Some(bytes) => {
+                    let types = self.arguments(alloc, locals, report, database, &[], params)?;
+                    let token = text.token;
+                    self.text(alloc, report, database, token, verb, bytes, types.as_slice())
+                }
+                None => {
+                    self.arguments(alloc, locals, report, database, &[], args)?;
+                    report.breach(database, 12);
+                    Ok(())
+                }
+            },
+            [] => {
+                report.breach(database, 12);
+                Ok(())
+            }
+        }
+    }
+
+    // The text at a token, with values of these types behind it.
+    fn text(
+        &self,
+        alloc: Global,
+        report: &mut Report,
+        database: u32,
+        token: u32,
+        verb: Verb,
+        text: &[u8],
+        types: &[Ty],
+    ) -> Result<(), AllocError>
+        ensures { OnOk result (report.new ≡ after report.old (database.text_notes database token (database.asked_operation self.now.classes.library.schema verb text.now) types.now)) }
+    {
+        match asked_operation(alloc, &self.classes.library.get().schema, verb, text)? {
+            Some(operation) => {
+                let fitting = all_fit(operation.params.as_slice(), types);
+                report.breach_if(!fitting, database, 13);
+            }
+            None => report.breach(token, 12),
+        }
+        Ok(())
+    }
+
+    // The types of arguments. Where no type is wanted, any value fits.
     #[cycle(expression)]
     #[tactic(auto, using(crate::proofs::Forms::forms, crate::proofs::Notes::after_append))]
     fn arguments(
         &self,
+        alloc: Global,
         locals: &Locals,
         report: &mut Report,
         token: u32,
         wanted: &[Ty],
         args: &[Expr],
-    )
-        ensures { report.new ≡ after report.old (expressions.arguments token wanted.now 0 locals.now (map (typed self.now) args.now)) }
+    ) -> Result<Items<Ty>, AllocError>
+        ensures types { IfOk result (λ types. types ≡ expressions.types_of locals.now (map (typed self.now) args.now)) }
+        ensures notes { OnOk result (report.new ≡ after report.old (expressions.arguments token wanted.now 0 locals.now (map (typed self.now) args.now))) }
     {
+        let mut types = Items::new(alloc);
         let mut place: usize = 0;
         for arg in args {
-            let ty = self.expression(locals, report, arg, false);
+            let ty = self.expression(alloc, locals, report, arg, false)?;
             report.breach_if(!fits(wanted_at(wanted, place), ty), token, 6);
+            types.push(ty)?;
             place += 1;
         }
+        Ok(types)
     }
 
     #[tactic(auto, using(crate::proofs::Notes::after_append))]
@@ -233,15 +335,6 @@ pub fn or_unknown(found: Option<Ty>) -> Ty
 {
     match found {
         Some(ty) => ty,
-        None => Ty::Unknown,
-    }
-}
-
-fn wanted_at(wanted: &[Ty], place: usize) -> Ty
-    ensures { result ≡ slice_index_or wanted.now place Ty.Unknown }
-{
-    match wanted.get(place) {
-        Some(ty) => *ty,
         None => Ty::Unknown,
     }
 }

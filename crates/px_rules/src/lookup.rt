@@ -3,6 +3,7 @@ ghost use Rattle.std.specs.Prelude.{◌≡◌, IfOk};
 ghost use Rattle.px_rules.specs.Facts as facts;
 ghost use Rattle.px_rules.specs.Slots.{slot_of};
 
+use crate::database::Verb;
 use crate::home::Home;
 use crate::numbers::{narrow, sum};
 use crate::scope::{Scope, Slot};
@@ -44,6 +45,32 @@ pub fn new_array_fact(ty: Ty) -> Fact
     Fact {
         ty,
         named: Named::NewArray { site: 0 },
+    }
+}
+
+/// `Db`, before a method's name.
+pub fn database_fact() -> Fact
+    ensures { result ≡ facts.database_fact }
+{
+    Fact {
+        ty: Ty::Unknown,
+        named: Named::Database,
+    }
+}
+
+/// A call of `Db`. Its numbers are given once all facts are known.
+pub fn verb_fact(verb: Verb) -> Fact
+    ensures { result ≡ facts.verb_fact verb }
+{
+    match verb {
+        Verb::Query => Fact {
+            ty: Ty::ResultSet,
+            named: Named::Query { number: 0, site: 0 },
+        },
+        Verb::Update => Fact {
+            ty: Ty::Int,
+            named: Named::Update { number: 0 },
+        },
     }
 }
 
@@ -113,6 +140,7 @@ impl Home {
         match of {
             Ty::Object(class) => numbered_method(at(self.firsts.as_slice(), class).copied(), place),
             Ty::Text => Ok(text_method(place)),
+            Ty::ResultSet => Ok(rows_method(place)),
             _ => Ok(Named::Nothing),
         }
     }
@@ -172,5 +200,16 @@ fn text_method(place: usize) -> Named
     match place {
         0 => Named::TextLength,
         _ => Named::TextEquals,
+    }
+}
+
+// A result set's methods are `next`, `getLong` and `getString`, in this order.
+fn rows_method(place: usize) -> Named
+    ensures { result ≡ facts.rows_method place }
+{
+    match place {
+        0 => Named::Next,
+        1 => Named::GetLong,
+        _ => Named::GetString,
     }
 }

@@ -29,7 +29,7 @@ pub fn base_type(numbers: &Table<usize>, base: &Base) -> Ty
         Base::Long => Ty::Long,
         Base::Boolean => Ty::Boolean,
         Base::Str => Ty::Text,
-        Base::ResultSet => Ty::Unknown,
+        Base::ResultSet => Ty::ResultSet,
         Base::Class(name) => class_type(numbers, name.bytes.as_slice()),
     }
 }
@@ -74,8 +74,9 @@ impl Classes {
     {
         match of {
             Ty::Object(number) => self.members.get(number),
-            Ty::Text => Some(&self.text),
-            Ty::Array(_) => Some(&self.array),
+            Ty::Text => Some(&self.library.get().text),
+            Ty::Array(_) => Some(&self.library.get().array),
+            Ty::ResultSet => Some(&self.library.get().rows),
             _ => None,
         }
     }

@@ -12,26 +12,32 @@ use crate::report::Report;
 use px_facts::Ty;
 use px_lex::Token;
 use px_tree::{Class, Member, Program};
+use px_value::Schema;
 use std::alloc::{AllocError, Global};
 
 // The greatest number of a token.
 const MAX_TOKEN: usize = 4294967295;
 
-/// The breach of a type rule at the first token, and there the one with the smallest code.
+/// The breach of a type rule at the first token, and there the one with the smallest code. The schema is that of the
+/// program's tables.
 #[tactic(auto, using(crate::proofs::Firsts::first_of_notes))]
-pub fn first_breach(alloc: Global, program: &Program) -> Result<Option<Breach>, AllocError>
-    ensures { IfOk result (λ first. first ≡ first_breach_of program.now) }
+pub fn first_breach(
+    alloc: Global,
+    program: &Program,
+    schema: &Schema,
+) -> Result<Option<Breach>, AllocError>
+    ensures { IfOk result (λ first. first ≡ first_breach_of schema.now program.now) }
 {
-    let report = judge(alloc, program)?;
+    let report = judge(alloc, program, schema)?;
     Ok(report.first)
 }
 
 #[tactic(auto, using(crate::proofs::Notes::after_append))]
-fn judge(alloc: Global, program: &Program) -> Result<Report, AllocError>
-    ensures { IfOk result (λ report. report ≡ after programs.no_report (programs.notes_of program.now)) }
+fn judge(alloc: Global, program: &Program, schema: &Schema) -> Result<Report, AllocError>
+    ensures { IfOk result (λ report. report ≡ after programs.no_report (programs.notes_of schema.now program.now)) }
 {
     let mut report = Report::new();
-    let classes = declare_classes(alloc, &mut report, program.classes.as_slice())?;
+    let classes = declare_classes(alloc, &mut report, schema, program.classes.as_slice())?;
     let end = end_token(program.tokens.as_slice());
     check_main(
         &mut report,

@@ -60,11 +60,11 @@ impl Context {
                 Ok(true)
             }
             StmtForm::Assign { place, value } => {
-                self.assign(locals, report, token, place, value);
+                self.assign(alloc, locals, report, token, place, value)?;
                 Ok(true)
             }
             StmtForm::Compound { name, sign, value } => {
-                self.compound(locals, report, token, name, *sign, value);
+                self.compound(alloc, locals, report, token, name, *sign, value)?;
                 Ok(true)
             }
             StmtForm::Up(name) | StmtForm::Down(name) => {
@@ -72,17 +72,17 @@ impl Context {
                 Ok(true)
             }
             StmtForm::Call(call) => {
-                self.expression(locals, report, call, false);
+                self.expression(alloc, locals, report, call, false)?;
                 Ok(true)
             }
             StmtForm::If { test, yes, no } => {
-                self.value(locals, report, token, Ty::Boolean, test);
+                self.value(alloc, locals, report, token, Ty::Boolean, test)?;
                 let completes = self.statement(alloc, locals, report, yes.get(), true)?;
                 let either = self.otherwise(alloc, locals, report, completes, no)?;
                 Ok(either)
             }
             StmtForm::While { test, body } => {
-                self.value(locals, report, token, Ty::Boolean, test);
+                self.value(alloc, locals, report, token, Ty::Boolean, test)?;
                 self.statement(alloc, locals, report, body.get(), true)?;
                 Ok(true)
             }
@@ -95,18 +95,18 @@ impl Context {
                 let count = locals.table.names.len();
                 let usable = locals.usable;
                 self.statement(alloc, locals, report, first.get(), true)?;
-                self.value(locals, report, token, Ty::Boolean, test);
+                self.value(alloc, locals, report, token, Ty::Boolean, test)?;
                 self.statement(alloc, locals, report, last.get(), true)?;
                 self.statement(alloc, locals, report, body.get(), true)?;
                 locals.truncate(count, usable);
                 Ok(true)
             }
             StmtForm::Return(value) => {
-                self.returned(locals, report, token, value);
+                self.returned(alloc, locals, report, token, value)?;
                 Ok(false)
             }
             StmtForm::Print(value) => {
-                let ty = self.expression(locals, report, value, false);
+                let ty = self.expression(alloc, locals, report, value, false)?;
                 report.breach_if(!ty.is_printable(), token, 6);
                 Ok(true)
             }
@@ -177,40 +177,63 @@ impl Context {
         let declared = type_of(&self.classes.numbers, ty);
         check_base(report, &self.classes.numbers, &ty.base);
         locals.declare(alloc, report, name, declared)?;
-        self.value(locals, report, token, declared, value);
+        self.value(alloc, locals, report, token, declared, value)?;
         locals.use_all();
         Ok(())
     }
 
     // A value that has to fit a type.
     #[tactic(auto, using(crate::proofs::Notes::after_append))]
-    fn value(&self, locals: &Locals, report: &mut Report, token: u32, to: Ty, value: &Expr)
-        ensures { report.new ≡ after report.old (statements.value_notes token to (typed self.now value.now false locals.now)) }
+    fn value(
+        &self,
+        alloc: Global,
+        locals: &Locals,
+        report: &mut Report,
+        token: u32,
+        to: Ty,
+        value: &Expr,
+    ) -> Result<(), AllocError>
+        ensures { OnOk result (report.new ≡ after report.old (statements.value_notes token to (typed self.now value.now false locals.now))) }
     {
-        let from = self.expression(locals, report, value, false);
+        let from = self.expression(alloc, locals, report, value, false)?;
         report.breach_if(!fits(to, from), token, 6);
+        Ok(())
     }
 
     #[tactic(auto, using(crate::proofs::Notes::after_append))]
-    fn assign(&self, locals: &Locals, report: &mut Report, token: u32, place: &Expr, value: &Expr)
-        ensures { report.new ≡ after report.old (statements.assign self.now token place.now value.now locals.now) }
+    fn assign(
+        &self,
+        alloc: Global,
+        locals: &Locals,
+        report: &mut Report,
+        token: u32,
+        place: &Expr,
+        value: &Expr,
+    ) -> Result<(), AllocError>
+        ensures { OnOk result (report.new ≡ after report.old (statements.assign self.now token place.now value.now locals.now)) }
     {
-        let to = self.place(locals, report, place);
-        self.value(locals, report, token, to, value);
+        let to = self.place(alloc, locals, report, place)?;
+        self.value(alloc, locals, report, token, to, value)
     }
 
     // What is assigned to.
     #[tactic(auto, using(crate::proofs::Notes::after_append))]
-    fn place(&self, locals: &Locals, report: &mut Report, place: &Expr) -> Ty
-        ensures ty { result ≡ (statements.assigned_place self.now place.now locals.now).ty }
-        ensures notes { report.new ≡ after report.old (statements.assigned_place self.now place.now locals.now).notes }
+    fn place(
+        &self,
+        alloc: Global,
+        locals: &Locals,
+        report: &mut Report,
+        place: &Expr,
+    ) -> Result<Ty, AllocError>
+        ensures ty { IfOk result (λ ty. ty ≡ (statements.assigned_place self.now place.now locals.now).ty) }
+        ensures notes { OnOk result (report.new ≡ after report.old (statements.assigned_place self.now place.now locals.now).notes) }
     {
         match &place.form {
             ExprForm::Field { of, name } => {
-                let of = self.expression(locals, report, of.get(), false);
-                self.assigned_field(report, of, name)
+                let of = self.expression(alloc, locals, report, of.get(), false)?;
+                Ok(self.assigned_field(report, of, name))
             }
-            _ => self.expression(locals, report, place, false),
+            _ => self.expression(alloc, locals, report, place, false),
         }
     }
 
@@ -227,34 +250,44 @@ impl Context {
     #[tactic(auto, using(crate::proofs::Notes::after_append))]
     fn compound(
         &self,
+        alloc: Global,
         locals: &Locals,
         report: &mut Report,
         token: u32,
         name: &Name,
         sign: Sign,
         value: &Expr,
-    )
-        ensures { report.new ≡ after report.old (statements.compound self.now token name.now sign value.now locals.now) }
+    ) -> Result<(), AllocError>
+        ensures { OnOk result (report.new ≡ after report.old (statements.compound self.now token name.now sign value.now locals.now)) }
     {
         let to = changed(locals, report, name);
-        let from = self.expression(locals, report, value, false);
+        let from = self.expression(alloc, locals, report, value, false)?;
         report.breach_if(!compound_fits(group_of(sign), to, from), token, 6);
+        Ok(())
     }
 
     // A `return`.
     #[tactic(auto, using(crate::proofs::Notes::after_append))]
-    fn returned(&self, locals: &Locals, report: &mut Report, token: u32, value: &Option<Expr>)
-        ensures { report.new ≡ after report.old (statements.return_notes self.now token value.now locals.now) }
+    fn returned(
+        &self,
+        alloc: Global,
+        locals: &Locals,
+        report: &mut Report,
+        token: u32,
+        value: &Option<Expr>,
+    ) -> Result<(), AllocError>
+        ensures { OnOk result (report.new ≡ after report.old (statements.return_notes self.now token value.now locals.now)) }
     {
         let void = self.result.is_void();
         match value {
             Some(value) => {
-                let from = self.expression(locals, report, value, false);
+                let from = self.expression(alloc, locals, report, value, false)?;
                 report.breach_if(void, token, 10);
                 report.breach_if(!(void || fits(self.result, from)), token, 6);
             }
             None => report.breach_if(!void, token, 10),
         }
+        Ok(())
     }
 }
 

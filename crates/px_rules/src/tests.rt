@@ -6,6 +6,7 @@ use px_tree::{
     Access, Base, Class, Expr, ExprForm, FieldDecl, Member, Method, Name, Param, Program, Sign,
     Stmt, StmtForm, TypeName,
 };
+use px_value::Schema;
 use sqlite_items::{Boxed, Items};
 use std::alloc::{AllocError, Global};
 
@@ -17,9 +18,15 @@ fn a_program_needs_a_class_main(rt: HostRuntime) -> Result<(), AllocError> {
         classes: Items::new(alloc),
         tokens: Items::new(alloc),
     };
-    let first = first_breach(alloc, &program)?;
+    let first = first_breach(alloc, &program, &no_tables(alloc))?;
     assert!(rt; matches!(first, Some(Breach { token: _, code: 14 })));
     Ok(())
+}
+
+fn no_tables(alloc: Global) -> Schema {
+    Schema {
+        tables: Items::new(alloc),
+    }
 }
 
 fn name(alloc: Global, text: &str) -> Result<Name, AllocError> {
@@ -169,7 +176,7 @@ fn is_fact(checked: &Checked, id: usize, ty: Ty, named: Named) -> bool {
 #[test]
 fn facts_are_in_the_order_of_the_text(rt: HostRuntime) -> Result<(), CheckError> {
     let alloc = rt.alloc();
-    let checked = check(alloc, program(alloc)?)?;
+    let checked = check(alloc, program(alloc)?, no_tables(alloc))?;
     let c = &checked;
     assert!(rt; is_fact(c, 0, Ty::Void, Named::Nothing));
     assert!(rt; is_fact(c, 1, Ty::Void, Named::Nothing));

@@ -2,13 +2,14 @@
 ghost use Rattle.std.specs.Prelude.{◌≡◌, [], ◌++◌, map, OnOk};
 ghost use Rattle.std.specs.Option.{option_map};
 ghost use Rattle.px_rules.specs.Slots.{closed};
-ghost use Rattle.px_rules.specs.Known.{known, all_facts};
+ghost use Rattle.px_rules.specs.Known.{known, all_nodes};
 ghost use Rattle.px_rules.specs.Told as specs;
 ghost use Rattle.px_rules.specs.Told.{told};
 
 use crate::home::Home;
 use crate::lookup::{changed_fact, local_fact};
 use crate::members::type_of;
+use crate::node::{Node, fact_only};
 use crate::scope::Scope;
 use px_facts::{Fact, Named, Ty};
 use px_tree::{Expr, Name, Stmt, StmtForm, TypeName};
@@ -29,37 +30,37 @@ impl Home {
         &self,
         alloc: Global,
         scope: &mut Scope,
-        facts: &mut Items<Fact>,
+        nodes: &mut Items<Node>,
         s: &Stmt,
     ) -> Result<(), AllocError>
         ensures scope { OnOk result (scope.new ≡ (told self.now s.now scope.old).scope) }
-        ensures facts { OnOk result (facts.new ≡ facts.old ++ (told self.now s.now scope.old).facts) }
+        ensures nodes { OnOk result (nodes.new ≡ nodes.old ++ (told self.now s.now scope.old).nodes) }
     {
         match &s.form {
             StmtForm::Block(items) => {
-                facts.push(NO_FACT)?;
-                self.block(alloc, scope, facts, items.as_slice())
+                nodes.push(fact_only(NO_FACT))?;
+                self.block(alloc, scope, nodes, items.as_slice())
             }
-            StmtForm::Empty => facts.push(NO_FACT),
+            StmtForm::Empty => nodes.push(fact_only(NO_FACT)),
             StmtForm::Local { ty, name, value } => {
-                self.local(alloc, scope, facts, ty, name, value)
+                self.local(alloc, scope, nodes, ty, name, value)
             }
-            StmtForm::Assign { place, value } => self.assign(scope, facts, place, value),
+            StmtForm::Assign { place, value } => self.assign(alloc, scope, nodes, place, value),
             StmtForm::Compound {
                 name,
                 sign: _,
                 value,
-            } => self.compound(scope, facts, name, value),
-            StmtForm::Up(name) | StmtForm::Down(name) => step(scope, facts, name),
-            StmtForm::Call(value) | StmtForm::Print(value) => self.value(scope, facts, value),
+            } => self.compound(alloc, scope, nodes, name, value),
+            StmtForm::Up(name) | StmtForm::Down(name) => step(scope, nodes, name),
+            StmtForm::Call(value) | StmtForm::Print(value) => self.value(alloc, scope, nodes, value),
             StmtForm::If { test, yes, no } => {
-                self.value(scope, facts, test)?;
-                self.statement(alloc, scope, facts, yes.get())?;
-                self.otherwise(alloc, scope, facts, no)
+                self.value(alloc, scope, nodes, test)?;
+                self.statement(alloc, scope, nodes, yes.get())?;
+                self.otherwise(alloc, scope, nodes, no)
             }
             StmtForm::While { test, body } => {
-                self.value(scope, facts, test)?;
-                self.statement(alloc, scope, facts, body.get())
+                self.value(alloc, scope, nodes, test)?;
+                self.statement(alloc, scope, nodes, body.get())
             }
             StmtForm::For {
                 first,
@@ -68,15 +69,15 @@ impl Home {
                 body,
             } => {
                 let count = scope.locals.names.len();
-                facts.push(NO_FACT)?;
-                self.statement(alloc, scope, facts, first.get())?;
-                self.expression(scope, facts, test)?;
-                self.statement(alloc, scope, facts, last.get())?;
-                self.statement(alloc, scope, facts, body.get())?;
+                nodes.push(fact_only(NO_FACT))?;
+                self.statement(alloc, scope, nodes, first.get())?;
+                self.expression(alloc, scope, nodes, test)?;
+                self.statement(alloc, scope, nodes, last.get())?;
+                self.statement(alloc, scope, nodes, body.get())?;
                 scope.leave(count);
                 Ok(())
             }
-            StmtForm::Return(value) => self.returned(scope, facts, value),
+            StmtForm::Return(value) => self.returned(alloc, scope, nodes, value),
         }
     }
 
@@ -87,15 +88,15 @@ impl Home {
         &self,
         alloc: Global,
         scope: &mut Scope,
-        facts: &mut Items<Fact>,
+        nodes: &mut Items<Node>,
         items: &[Stmt],
     ) -> Result<(), AllocError>
         ensures scope { OnOk result (scope.new ≡ closed scope.old (specs.in_order (map (told self.now) items.now) scope.old).scope) }
-        ensures facts { OnOk result (facts.new ≡ facts.old ++ (specs.in_order (map (told self.now) items.now) scope.old).facts) }
+        ensures nodes { OnOk result (nodes.new ≡ nodes.old ++ (specs.in_order (map (told self.now) items.now) scope.old).nodes) }
     {
         let count = scope.locals.names.len();
         for item in items {
-            self.statement(alloc, scope, facts, item)?;
+            self.statement(alloc, scope, nodes, item)?;
         }
         scope.leave(count);
         Ok(())
@@ -108,14 +109,14 @@ impl Home {
         &self,
         alloc: Global,
         scope: &mut Scope,
-        facts: &mut Items<Fact>,
+        nodes: &mut Items<Node>,
         no: &Option<Boxed<Stmt>>,
     ) -> Result<(), AllocError>
         ensures scope { OnOk result (scope.new ≡ (specs.otherwise (option_map (told self.now) no.now) scope.old).scope) }
-        ensures facts { OnOk result (facts.new ≡ facts.old ++ (specs.otherwise (option_map (told self.now) no.now) scope.old).facts) }
+        ensures nodes { OnOk result (nodes.new ≡ nodes.old ++ (specs.otherwise (option_map (told self.now) no.now) scope.old).nodes) }
     {
         match no {
-            Some(no) => self.statement(alloc, scope, facts, no.get()),
+            Some(no) => self.statement(alloc, scope, nodes, no.get()),
             None => Ok(()),
         }
     }
@@ -125,78 +126,87 @@ impl Home {
         &self,
         alloc: Global,
         scope: &mut Scope,
-        facts: &mut Items<Fact>,
+        nodes: &mut Items<Node>,
         ty: &TypeName,
         name: &Name,
         value: &Expr,
     ) -> Result<(), AllocError>
         ensures scope { OnOk result (scope.new ≡ (specs.local_told self.now ty.now name.now value.now scope.old).scope) }
-        ensures facts { OnOk result (facts.new ≡ facts.old ++ (specs.local_told self.now ty.now name.now value.now scope.old).facts) }
+        ensures nodes { OnOk result (nodes.new ≡ nodes.old ++ (specs.local_told self.now ty.now name.now value.now scope.old).nodes) }
     {
         let ty = type_of(&self.classes.numbers, ty);
-        facts.push(local_fact(scope.next(ty)?))?;
-        self.expression(scope, facts, value)?;
+        nodes.push(fact_only(local_fact(scope.next(ty)?)))?;
+        self.expression(alloc, scope, nodes, value)?;
         scope.declare(alloc, name.bytes.as_slice(), ty)
     }
 
     #[tactic(auto, using(crate::proofs::KnownForms::both_added))]
     fn assign(
         &self,
+        alloc: Global,
         scope: &Scope,
-        facts: &mut Items<Fact>,
+        nodes: &mut Items<Node>,
         place: &Expr,
         value: &Expr,
     ) -> Result<(), AllocError>
-        ensures { OnOk result (facts.new ≡ facts.old ++ (specs.assign_told self.now place.now value.now scope.now).facts) }
+        ensures { OnOk result (nodes.new ≡ nodes.old ++ (specs.assign_told self.now place.now value.now scope.now).nodes) }
     {
-        self.value(scope, facts, place)?;
-        self.expression(scope, facts, value)?;
+        self.value(alloc, scope, nodes, place)?;
+        self.expression(alloc, scope, nodes, value)?;
         Ok(())
     }
 
     #[tactic(auto, using(crate::proofs::KnownForms::both_added))]
     fn compound(
         &self,
+        alloc: Global,
         scope: &Scope,
-        facts: &mut Items<Fact>,
+        nodes: &mut Items<Node>,
         name: &Name,
         value: &Expr,
     ) -> Result<(), AllocError>
-        ensures { OnOk result (facts.new ≡ facts.old ++ (specs.change_told name.now (all_facts (known self.now value.now scope.now)) scope.now).facts) }
+        ensures { OnOk result (nodes.new ≡ nodes.old ++ (specs.change_told name.now (all_nodes (known self.now value.now scope.now)) scope.now).nodes) }
     {
-        step(scope, facts, name)?;
-        self.expression(scope, facts, value)?;
+        step(scope, nodes, name)?;
+        self.expression(alloc, scope, nodes, value)?;
         Ok(())
     }
 
     // A statement that writes no local, and its one or first expression.
     #[tactic(auto, using(crate::proofs::KnownForms::both_added))]
-    fn value(&self, scope: &Scope, facts: &mut Items<Fact>, value: &Expr) -> Result<(), AllocError>
-        ensures { OnOk result (facts.new ≡ facts.old ++ (specs.value_told self.now value.now scope.now).facts) }
+    fn value(
+        &self,
+        alloc: Global,
+        scope: &Scope,
+        nodes: &mut Items<Node>,
+        value: &Expr,
+    ) -> Result<(), AllocError>
+        ensures { OnOk result (nodes.new ≡ nodes.old ++ (specs.value_told self.now value.now scope.now).nodes) }
     {
-        facts.push(NO_FACT)?;
-        self.expression(scope, facts, value)?;
+        nodes.push(fact_only(NO_FACT))?;
+        self.expression(alloc, scope, nodes, value)?;
         Ok(())
     }
 
     fn returned(
         &self,
+        alloc: Global,
         scope: &Scope,
-        facts: &mut Items<Fact>,
+        nodes: &mut Items<Node>,
         value: &Option<Expr>,
     ) -> Result<(), AllocError>
-        ensures { OnOk result (facts.new ≡ facts.old ++ (specs.return_told self.now value.now scope.now).facts) }
+        ensures { OnOk result (nodes.new ≡ nodes.old ++ (specs.return_told self.now value.now scope.now).nodes) }
     {
         match value {
-            Some(value) => self.value(scope, facts, value),
-            None => facts.push(NO_FACT),
+            Some(value) => self.value(alloc, scope, nodes, value),
+            None => nodes.push(fact_only(NO_FACT)),
         }
     }
 }
 
 // `++` and `--`.
-fn step(scope: &Scope, facts: &mut Items<Fact>, name: &Name) -> Result<(), AllocError>
-    ensures { OnOk result (facts.new ≡ facts.old ++ (specs.change_told name.now [] scope.now).facts) }
+fn step(scope: &Scope, nodes: &mut Items<Node>, name: &Name) -> Result<(), AllocError>
+    ensures { OnOk result (nodes.new ≡ nodes.old ++ (specs.change_told name.now [] scope.now).nodes) }
 {
-    facts.push(changed_fact(scope, name.bytes.as_slice()))
+    nodes.push(fact_only(changed_fact(scope, name.bytes.as_slice())))
 }

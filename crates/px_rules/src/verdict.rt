@@ -4,7 +4,7 @@ ghost use Rattle.px_rules.specs.declared.error.CheckError.TheVariants.{TypeFault
 ghost use Rattle.px_rules.specs.Bodies as bodies;
 ghost use Rattle.px_rules.specs.Checked as specs;
 
-use crate::bodies::Known;
+use crate::bodies::{Known, Numbered};
 use crate::classes::{FieldType, Members};
 use crate::declare::declare_classes;
 use crate::error::CheckError;
@@ -13,27 +13,32 @@ use crate::main_class::find_main;
 use crate::numbers::sum;
 use crate::program::first_breach;
 use crate::report::Report;
-use crate::sites::with_sites;
+use crate::sites::{operations_in, with_sites};
 use px_facts::{Checked, ClassFact, Facts, Main, Ty};
 use px_lex::Token;
 use px_tree::{Class, Program};
+use px_value::Schema;
 use sqlite_items::{Items, at};
 use std::alloc::{AllocError, Global};
 
-/// Judges a program by the type rules.
-pub fn check(alloc: Global, program: Program) -> Result<Checked, CheckError>
-    ensures kept { OnOk result (specs.fault_of program ≡ None) }
-    ensures checked { IfOk result (λ checked. checked ≡ specs.checked_of program) }
-    ensures fault { (line code : ℕ) → IsErrOf result (TypeFault line code) → specs.fault_of program ≡ Some (TypeFault line code) }
+/// Judges a program by the type rules. The schema is that of its tables.
+pub fn check(alloc: Global, program: Program, schema: Schema) -> Result<Checked, CheckError>
+    ensures kept { OnOk result (specs.fault_of program schema ≡ None) }
+    ensures checked { IfOk result (λ checked. checked ≡ specs.checked_of program schema) }
+    ensures fault { (line code : ℕ) → IsErrOf result (TypeFault line code) → specs.fault_of program schema ≡ Some (TypeFault line code) }
 {
-    if let Some(breach) = first_breach(alloc, &program)? {
+    if let Some(breach) = first_breach(alloc, &program, &schema)? {
         return Err(CheckError::TypeFault {
             line: line_at(program.tokens.as_slice(), breach.token),
             code: breach.code,
         });
     }
-    let facts = find_facts(alloc, &program)?;
-    Ok(Checked { program, facts })
+    let facts = find_facts(alloc, &program, &schema)?;
+    Ok(Checked {
+        program,
+        schema,
+        facts,
+    })
 }
 
 // The line of a token.
@@ -47,11 +52,11 @@ fn line_at(tokens: &[Token], token: u32) -> u32
 }
 
 #[tactic(auto, unfolding(crate::specs::Checked::facts_of))]
-fn find_facts(alloc: Global, program: &Program) -> Result<Facts, AllocError>
-    ensures { IfOk result (λ facts. facts ≡ specs.facts_of program.now) }
+fn find_facts(alloc: Global, program: &Program, schema: &Schema) -> Result<Facts, AllocError>
+    ensures { IfOk result (λ facts. facts ≡ specs.facts_of schema.now program.now) }
 {
     let classes = program.classes.as_slice();
-    let mut home = find_home(alloc, classes)?;
+    let mut home = find_home(alloc, schema, classes)?;
     facts_in(alloc, &mut home, classes)
 }
 
@@ -71,20 +76,25 @@ fn facts_in(alloc: Global, home: &mut Home, classes: &[Class]) -> Result<Facts, 
     Ok(with_known(known, class_facts, main))
 }
 
-fn with_known(known: Known, classes: Items<ClassFact>, main: Main) -> Facts
+fn with_known(known: Numbered, classes: Items<ClassFact>, main: Main) -> Facts
     ensures { result ≡ specs.with_known known classes main }
 {
-    let Known { nodes, methods } = known;
+    let Numbered {
+        nodes,
+        methods,
+        operations,
+    } = known;
     Facts {
         nodes,
         classes,
         methods,
+        operations,
         main,
     }
 }
 
 // What is in the methods of all classes, from the first on.
-fn find_known(alloc: Global, home: &mut Home, classes: &[Class]) -> Result<Known, AllocError>
+fn find_known(alloc: Global, home: &mut Home, classes: &[Class]) -> Result<Numbered, AllocError>
     requires { home.old.this ≡ 0 }
     ensures { IfOk result (λ known. known ≡ specs.known_in home.old classes.now) }
 {
@@ -96,21 +106,26 @@ fn find_known(alloc: Global, home: &mut Home, classes: &[Class]) -> Result<Known
     numbered(alloc, known)
 }
 
-// With the numbers of `new` expressions.
-fn numbered(alloc: Global, known: Known) -> Result<Known, AllocError>
+// With the numbers of sites and of calls of `Db`.
+fn numbered(alloc: Global, known: Known) -> Result<Numbered, AllocError>
     ensures { IfOk result (λ all. all ≡ specs.numbered known) }
 {
     let Known { nodes, methods } = known;
+    let operations = operations_in(alloc, nodes.as_slice())?;
     let nodes = with_sites(alloc, nodes.as_slice())?;
-    Ok(Known { nodes, methods })
+    Ok(Numbered {
+        nodes,
+        methods,
+        operations,
+    })
 }
 
 // The classes, and the first of them.
-fn find_home(alloc: Global, classes: &[Class]) -> Result<Home, AllocError>
-    ensures { IfOk result (λ home. home ≡ bodies.home_of classes.now) }
+fn find_home(alloc: Global, schema: &Schema, classes: &[Class]) -> Result<Home, AllocError>
+    ensures { IfOk result (λ home. home ≡ bodies.home_of schema.now classes.now) }
 {
     let mut report = Report::new();
-    let classes = declare_classes(alloc, &mut report, classes)?;
+    let classes = declare_classes(alloc, &mut report, schema, classes)?;
     let firsts = firsts(alloc, classes.members.as_slice())?;
     Ok(Home {
         classes,

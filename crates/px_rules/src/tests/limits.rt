@@ -1,5 +1,5 @@
 //! The limits of rule 17, each at its edge.
-use super::{expression, name, statement, type_name};
+use super::{expression, name, no_tables, statement, type_name};
 use crate::{CheckError, check};
 use px_tree::{
     Access, Base, Class, ExprForm, FieldDecl, Member, Method, Name, Program, Stmt, StmtForm,
@@ -9,7 +9,7 @@ use std::alloc::{AllocError, Global};
 
 // The code of a program's first breach; 0 where there is none.
 fn code_of(alloc: Global, program: Program) -> Result<u8, AllocError> {
-    match check(alloc, program) {
+    match check(alloc, program, no_tables(alloc)) {
         Ok(_) => Ok(0),
         Err(CheckError::TypeFault { line: _, code }) => Ok(code),
         Err(CheckError::NoMemory) => Err(AllocError),
