@@ -18,6 +18,7 @@ use Rattle.px_tree.specs.declared.Stmt.{Stmt}
 use Rattle.px_tree.specs.declared.StmtForm.TheVariants.{Block, Empty, Local, Assign, Compound, Up, Down, Call, If, While, For, Return, Print}
 use Rattle.px_semantics.specs.Facts.{type_at, named_at, op_of}
 use Rattle.px_semantics.specs.Statements.{change_local, one, loop, all_turns, returned}
+use Rattle.px_rows.specs.Tables.{Tables}
 use Rattle.px_semantics.proofs.Forms as forms
 use Rattle.px_interpreter.specs.declared.around.Around.{Around}
 use Rattle.px_interpreter.specs.View.{Here, Ending, around_of, says, does}
@@ -34,40 +35,40 @@ module _ (a : Around) where
   at_s s d = d s
 
   pub does_block : (x : Stmt) (s : Here) (items : List Stmt) → x.form ≡ Block items → does a x s ≡ in_order (map (does a) items) s
-  does_block x s items h = ap (at_s s) (forms.done_block ⊥ (Unit {0}) (around_of a) a.result x items h)
+  does_block x s items h = ap (at_s s) (forms.done_block ⊥ Tables (around_of a) a.result x items h)
 
   pub does_empty : (x : Stmt) (s : Here) → x.form ≡ Empty → does a x s ≡ Gives Goes s
-  does_empty x s h = ap (at_s s) (forms.done_empty ⊥ (Unit {0}) (around_of a) a.result x h)
+  does_empty x s h = ap (at_s s) (forms.done_empty ⊥ Tables (around_of a) a.result x h)
 
   pub does_local : (x : Stmt) (s : Here) (t : TypeName) (n : NameData) (e : Expr) → x.form ≡ Local t n e → does a x s ≡ then_run (declared a e x.id s) (λ _. pure Goes)
-  does_local x s t n e h = ap (at_s s) (forms.done_local ⊥ (Unit {0}) (around_of a) a.result x t n e h)
+  does_local x s t n e h = ap (at_s s) (forms.done_local ⊥ Tables (around_of a) a.result x t n e h)
 
   pub does_assign : (x : Stmt) (s : Here) (place e : Expr) → x.form ≡ Assign place e → does a x s ≡ then_run ((says a place).put (says a e).ty (says a e).run s) (λ _. pure Goes)
-  does_assign x s place e h = ap (at_s s) (forms.done_assign ⊥ (Unit {0}) (around_of a) a.result x place e h)
+  does_assign x s place e h = ap (at_s s) (forms.done_assign ⊥ Tables (around_of a) a.result x place e h)
 
   pub does_compound : (x : Stmt) (s : Here) (n : NameData) (sign : Sign) (e : Expr) → x.form ≡ Compound n sign e → does a x s ≡ then_run (change_local (named_at a.facts.now x.id) (op_of sign (type_at a.facts.now x.id) (says a e).ty) (says a e).run s) (λ _. pure Goes)
-  does_compound x s n sign e h = ap (at_s s) (forms.done_compound ⊥ (Unit {0}) (around_of a) a.result x n sign e h)
+  does_compound x s n sign e h = ap (at_s s) (forms.done_compound ⊥ Tables (around_of a) a.result x n sign e h)
 
   pub does_up : (x : Stmt) (s : Here) (n : NameData) → x.form ≡ Up n → does a x s ≡ then_run (change_local (named_at a.facts.now x.id) op.Add (pure (one (type_at a.facts.now x.id))) s) (λ _. pure Goes)
-  does_up x s n h = ap (at_s s) (forms.done_up ⊥ (Unit {0}) (around_of a) a.result x n h)
+  does_up x s n h = ap (at_s s) (forms.done_up ⊥ Tables (around_of a) a.result x n h)
 
   pub does_down : (x : Stmt) (s : Here) (n : NameData) → x.form ≡ Down n → does a x s ≡ then_run (change_local (named_at a.facts.now x.id) op.Sub (pure (one (type_at a.facts.now x.id))) s) (λ _. pure Goes)
-  does_down x s n h = ap (at_s s) (forms.done_down ⊥ (Unit {0}) (around_of a) a.result x n h)
+  does_down x s n h = ap (at_s s) (forms.done_down ⊥ Tables (around_of a) a.result x n h)
 
   pub does_call : (x : Stmt) (s : Here) (e : Expr) → x.form ≡ Call e → does a x s ≡ then_run ((says a e).run s) (λ _. pure Goes)
-  does_call x s e h = ap (at_s s) (forms.done_call ⊥ (Unit {0}) (around_of a) a.result x e h)
+  does_call x s e h = ap (at_s s) (forms.done_call ⊥ Tables (around_of a) a.result x e h)
 
   pub does_if : (x : Stmt) (s : Here) (e : Expr) (b b' : Stmt) (other : Option Stmt) → x.form ≡ If e b other → b' ≡ b → does a x s ≡ chosen a e b' other s
-  does_if x s e b b' other h u = ap (at_s s) (forms.done_if ⊥ (Unit {0}) (around_of a) a.result x e b b' other h u)
+  does_if x s e b b' other h u = ap (at_s s) (forms.done_if ⊥ Tables (around_of a) a.result x e b b' other h u)
 
   pub does_while : (x : Stmt) (s : Here) (e : Expr) (b b' : Stmt) → x.form ≡ While e b → b' ≡ b → does a x s ≡ loop (says a e).run (does a b') all_turns s
-  does_while x s e b b' h u = ap (at_s s) (forms.done_while ⊥ (Unit {0}) (around_of a) a.result x e b b' h u)
+  does_while x s e b b' h u = ap (at_s s) (forms.done_while ⊥ Tables (around_of a) a.result x e b b' h u)
 
   pub does_for : (x : Stmt) (s : Here) (f f' : Stmt) (e : Expr) (l l' b b' : Stmt) → x.form ≡ For f e l b → f' ≡ f → l' ≡ l → b' ≡ b → does a x s ≡ looped a (Some f') e (Some l') b' s
-  does_for x s f f' e l l' b b' h u v w = ap (at_s s) (forms.done_for ⊥ (Unit {0}) (around_of a) a.result x f f' e l l' b b' h u v w)
+  does_for x s f f' e l l' b b' h u v w = ap (at_s s) (forms.done_for ⊥ Tables (around_of a) a.result x f f' e l l' b b' h u v w)
 
   pub does_return : (x : Stmt) (s : Here) (e : Option Expr) → x.form ≡ Return e → does a x s ≡ returned a.result (option_map (says a) e) s
-  does_return x s e h = ap (at_s s) (forms.done_return ⊥ (Unit {0}) (around_of a) a.result x e h)
+  does_return x s e h = ap (at_s s) (forms.done_return ⊥ Tables (around_of a) a.result x e h)
 
   pub does_print : (x : Stmt) (s : Here) (e : Expr) → x.form ≡ Print e → does a x s ≡ then_run (printed a e s) (λ _. pure Goes)
-  does_print x s e h = ap (at_s s) (forms.done_print ⊥ (Unit {0}) (around_of a) a.result x e h)
+  does_print x s e h = ap (at_s s) (forms.done_print ⊥ Tables (around_of a) a.result x e h)

@@ -9,7 +9,9 @@ use Rattle.px_value.specs.declared.thrown.Thrown.TheVariants.{StackOverflowError
 use Rattle.px_value.specs.Outcome.{Gives, Throws, Flow}
 use Rattle.px_tree.specs.declared.Method.{Method}
 use Rattle.px_facts.specs.declared.checked.MethodFact.{MethodFact}
+use Rattle.px_rows.specs.Tables.{Tables}
 use Rattle.px_semantics.specs.Facts.{by_number}
+use Rattle.px_semantics.specs.Asks.{by_tables}
 use Rattle.px_semantics.specs.Expressions.{Around as AroundMeant}
 use Rattle.px_semantics.specs.Statements.{done_by}
 use Rattle.px_semantics.specs.Calls.{Source, calls_in, enters, first_slots, leaves_frame}
@@ -34,15 +36,15 @@ none_there (Some b) h = absurd (h b refl)
 -- ---- frames
 
 abbrev pub runs : Source → ℕ → ℕ → List Value → There → Ending There (Option Value)
-runs P n method values s = calls_in {Q = ⊥} {W = Unit {0}} P n method values s
+runs P n method values s = calls_in {Q = ⊥} {W = Tables} by_tables P n method values s
 
 pub no_frames : (P : Source) (n method : ℕ) (values : List Value) (s : There) → n ≡ 0 → runs P n method values s ≡ Throws StackOverflowError s
 unfolding calls_in
 no_frames P zero method values s h = refl
 no_frames P (suc n) method values s h = absurd (omega (arith, h))
 
-abbrev pub inside : Source → ℕ → AroundMeant ⊥ (Unit {0})
-inside P n = record { facts = P.facts; calls = calls_in P n }
+abbrev pub inside : Source → ℕ → AroundMeant ⊥ Tables
+inside P n = record { facts = P.facts; ask = by_tables; calls = calls_in by_tables P n }
 
 pub one_frame : (P : Source) (n method : ℕ) (values : List Value) (s : There) → 1 ≤ n → runs P n method values s ≡ enters (inside P (n - 1)) (by_number P.methods method) (by_number P.facts.methods method) values s
 unfolding calls_in

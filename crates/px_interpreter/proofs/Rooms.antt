@@ -12,6 +12,7 @@ use Rattle.px_value.specs.declared.thrown.Thrown.TheVariants.{HeapFull}
 use Rattle.px_value.specs.Heap.{HasNoRoom, IsLongArray, heap_counted, max_counted, max_elements}
 use Rattle.px_value.specs.Outcome.{Outcome, Gives, Throws}
 use Rattle.px_semantics.specs.Effects.{allocate, fresh_object, has_no_room, is_long}
+use Rattle.px_rows.specs.Tables.{Tables}
 use Rattle.px_interpreter.specs.View.{There}
 
 long_is : (k : Kind) (n : ℕ) → IsLongArray k n → is_long k n ≡ true
@@ -42,7 +43,7 @@ by_test true k site heap cells t h = inl (grind (arith, nat_tests, t))
 by_test false k site heap cells t h = inr (is_long_array k (length cells) h)
 
 abbrev allocates : Kind → ℕ → List Value → There → Outcome ⊥ There Value
-allocates k site cells = allocate {Q = ⊥} {W = Unit {0}} k site cells
+allocates k site cells = allocate {Q = ⊥} {W = Tables} k site cells
 
 abbrev allocated : There → Kind → ℕ → List Value → Bool → Outcome ⊥ There Value
 allocated s k site cells full = if full then Throws HeapFull s else Gives (Ref (length s.heap)) (record s { heap = s.heap ++ fresh_object k site cells ∷ [] })

@@ -3,6 +3,8 @@ use Rattle.std.specs.Prelude.{ℕ, List}
 use Rattle.px_value.specs.declared.object.Object.{Object}
 use Rattle.px_code.specs.declared.reply.Shown.{Shown}
 use Rattle.px_facts.specs.declared.checked.Checked.{Checked}
+use Rattle.px_rows.specs.Tables.{Tables}
+use Rattle.px_semantics.specs.Asks.{by_tables}
 use Rattle.px_semantics.specs.Program.{source_from}
 use Rattle.px_semantics.specs.Serial.{Call, Stand, serial}
 use Rattle.px_interpreter.specs.declared.serial.Call.{Call as CallData}
@@ -11,9 +13,8 @@ use Rattle.px_interpreter.specs.Plain.{call_with, stand_of}
 abbrev pub told_call : CallData → Call
 told_call c = call_with c.session c.entry c.args.now
 
--- nothing outside the program is asked
-abbrev pub serial_of : Checked → ℕ → List Call → List Shown × Stand (Unit {0})
-serial_of checked sessions calls = serial (source_from checked) sessions tt calls
+abbrev pub serial_of : Checked → ℕ → Tables → List Call → List Shown × Stand Tables
+serial_of checked sessions tables calls = serial by_tables (source_from checked) sessions tables calls
 
-abbrev pub ran_of : List Shown → List (List Object) → List Shown × Stand (Unit {0})
-ran_of shown heaps = (shown, stand_of heaps)
+abbrev pub ran_of : List Shown → List (List Object) → Tables → List Shown × Stand Tables
+ran_of shown heaps tables = (shown, stand_of heaps tables)

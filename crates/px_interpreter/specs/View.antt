@@ -8,12 +8,15 @@ use Rattle.px_value.specs.Operators.{Applied}
 use Rattle.px_tree.specs.declared.Expr.{Expr}
 use Rattle.px_tree.specs.declared.Stmt.{Stmt}
 use Rattle.px_semantics.specs.Run.{Shared, Frame}
+use Rattle.px_rows.specs.Tables.{Tables, undone}
+use Rattle.px_semantics.specs.Asks.{by_tables}
 use Rattle.px_semantics.specs.Expressions.{Around, Meant, meant}
 use Rattle.px_semantics.specs.Statements.{done_by}
 use Rattle.px_semantics.specs.Calls.{Source, calls_in}
 use Rattle.px_interpreter.specs.Undo.{restored}
 use Rattle.px_interpreter.specs.declared.around.Around.{Around as AroundData}
 use Rattle.px_interpreter.specs.declared.store.Store.{Store}
+use Rattle.px_interpreter.specs.declared.asked.Asked.{Asked}
 use Rattle.px_interpreter.specs.declared.machine.Machine.{Machine}
 use Rattle.px_interpreter.specs.declared.stop.Stop.{Stop}
 use Rattle.px_interpreter.specs.declared.stop.Stop.TheVariants as stop
@@ -22,18 +25,18 @@ use Rattle.px_interpreter.specs.declared.stop.Next.TheVariants as next
 
 -- ---- states
 
--- nothing outside the program is asked, and no question is left open
+-- the tables are asked, and no question is left open
 abbrev pub There : Type 0
-There = Shared (Unit {0})
+There = Shared Tables
 
 abbrev pub Here : Type 0
-Here = Frame (Unit {0})
+Here = Frame Tables
 
 abbrev pub Ending : Type 0 → Type 0 → Type 0
 Ending S A = Outcome ⊥ S A
 
 abbrev pub shared_of : Machine → There
-shared_of m = record { heap = m.store.heap; world = tt; prints = m.prints.lines.items; turns = m.turns }
+shared_of m = record { heap = m.store.heap; world = m.asked.tables; prints = m.prints.lines.items; turns = m.turns; operations = m.asked.count }
 
 abbrev pub frame : List Value → Machine → Here
 frame slots m = record { locals = slots; shared = shared_of m }
@@ -73,9 +76,20 @@ EndsFlow s (Err e) o = Stops s e o
 abbrev pub old_heap : Store → List Object
 old_heap s = restored s.start s.changes.items s.heap
 
--- what was written since the call began is taken back to the same heap as before
+abbrev pub old_tables : Asked → Tables
+old_tables a = undone a.undo a.tables
+
+-- what a session's heap and the tables were when the call began
+pub record Before : Type 0 where
+  pub heap : List Object
+  pub tables : Tables
+
+abbrev pub before : Machine → Before
+before m = record { heap = old_heap m.store; tables = old_tables m.asked }
+
+-- what was written since the call began is taken back to the same heap and tables as before
 abbrev pub Keeps : Machine → Machine → Type 0
-Keeps old new = old_heap new.store ≡ old_heap old.store
+Keeps old new = before new ≡ before old
 
 -- a fact that want of memory ends
 abbrev pub IfKept : {A : Type 0} → Result A Stop → Type 0 → Type 0
@@ -91,10 +105,10 @@ all_now xs = map (λ x. x.now) xs
 abbrev pub source_of : AroundData → Source
 source_of a = record { facts = a.facts.now; methods = all_now a.methods.now }
 
-abbrev pub around_of : AroundData → Around ⊥ (Unit {0})
-around_of a = record { facts = a.facts.now; calls = calls_in (source_of a) a.left }
+abbrev pub around_of : AroundData → Around ⊥ Tables
+around_of a = record { facts = a.facts.now; ask = by_tables; calls = calls_in by_tables (source_of a) a.left }
 
-abbrev pub says : AroundData → Expr → Meant ⊥ (Unit {0})
+abbrev pub says : AroundData → Expr → Meant ⊥ Tables
 says a = meant (around_of a)
 
 abbrev pub does : AroundData → Stmt → Here → Ending Here (Flow Value)
@@ -102,6 +116,6 @@ does a = done_by (around_of a) a.result
 
 -- a call of a method from this machine leaves that one
 pub record CallEnds (a : AroundData) (old : Machine) (method : ℕ) (values : List Value) (r : Result (Option Value) Stop) (new : Machine) : Type 0 where
-  pub ends : Ends (shared_of new) r (calls_in (source_of a) a.left method values (shared_of old))
+  pub ends : Ends (shared_of new) r (calls_in by_tables (source_of a) a.left method values (shared_of old))
   pub kept : IfKept r (Keeps old new)
   pub turns : old.turns ≤ new.turns

@@ -2,6 +2,7 @@
 ghost use Rattle.std.specs.Prelude.{◌≡◌, ◌≤◌, ◌++◌, drop, map, IfOk, OnOk};
 ghost use Rattle.std.specs.Option.{option_copied};
 ghost use Rattle.px_semantics.specs.Facts.{by_number, default_of as mean_default_of};
+ghost use Rattle.px_semantics.specs.Asks.{by_tables};
 ghost use Rattle.px_semantics.specs.Calls.{calls_in, first_slots as mean_first_slots, result_of as mean_result_of};
 ghost use Rattle.px_interpreter.specs.View.{shared_of, source_of, all_now, flow_of, Ends, Keeps, IfKept, CallEnds};
 
@@ -84,7 +85,7 @@ pub fn enter(
     method: u16,
     values: Values,
 ) -> Result<Option<Value>, Stop>
-    ensures ends { Ends (shared_of m.new) result (calls_in (source_of around.now) around.now.left method values (shared_of m.old)) }
+    ensures ends { Ends (shared_of m.new) result (calls_in by_tables (source_of around.now) around.now.left method values (shared_of m.old)) }
     ensures kept { IfKept result (Keeps m.old m.new) }
     ensures turns { m.old.turns ≤ m.new.turns }
 {
@@ -105,7 +106,7 @@ pub fn enter(
         left: around.left - 1,
     };
     let run = |m: &mut Machine, method: u16, values: Values| -> Result<Option<Value>, Stop>
-        ensures ends { Ends (shared_of m.new) result (calls_in (source_of inner.entry) inner.entry.left method values (shared_of m.old)) }
+        ensures ends { Ends (shared_of m.new) result (calls_in by_tables (source_of inner.entry) inner.entry.left method values (shared_of m.old)) }
         ensures kept { IfKept result (Keeps m.old m.new) }
         ensures turns { m.old.turns ≤ m.new.turns }
     { enter(&inner, m, method, values) };

@@ -127,8 +127,8 @@ pub fn copied(alloc: Global, value: Option<&Value>) -> Result<Value, AllocError>
     }
 }
 
-// A number of cells as an int.
-fn size_value(size: usize) -> Value
+/// A number as an int.
+pub fn size_value(size: usize) -> Value
     ensures { result ≡ effects.size_value size }
 {
     Value::Int(((size % (1 << 32)) as u32).cast_signed())
@@ -150,13 +150,13 @@ impl Machine {
         }
     }
 
-    fn read_cell(&self, alloc: Global, object: u32, index: u32) -> Result<Value, Stop>
+    pub fn read_cell(&self, alloc: Global, object: u32, index: u32) -> Result<Value, Stop>
         ensures { Ends (shared_of self.now) result (effects.read_cell object index (shared_of self.now)) }
     {
         Ok(copied(alloc, self.store.heap.get(object, index))?)
     }
 
-    fn write_cell(&mut self, object: u32, index: u32, value: Value) -> Result<(), Stop>
+    pub fn write_cell(&mut self, object: u32, index: u32, value: Value) -> Result<(), Stop>
         ensures ends { Ends (shared_of self.new) result (effects.write_cell object index value (shared_of self.old)) }
         ensures kept { IfKept result (Keeps self.old self.new) }
         ensures turns { self.new.turns ≡ self.old.turns }
@@ -222,7 +222,7 @@ impl Machine {
         self.write_cell(object, place, value)
     }
 
-    fn allocate(&mut self, kind: Kind, site: u16, cells: Values) -> Result<Value, Stop>
+    pub fn allocate(&mut self, kind: Kind, site: u16, cells: Values) -> Result<Value, Stop>
         ensures ends { Ends (shared_of self.new) result (effects.allocate kind site cells (shared_of self.old)) }
         ensures kept { Keeps self.old self.new }
         ensures turns { self.new.turns ≡ self.old.turns }

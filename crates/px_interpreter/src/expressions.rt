@@ -158,6 +158,23 @@ fn text_equals(alloc: Global, values: &Values) -> Result<Value, Stop>
     )
 }
 
+fn is_operation(name: Named) -> bool
+    ensures { result ≡ expressions.is_operation name }
+{
+    matches!(name, Named::Query { .. } | Named::Update { .. })
+}
+
+// The arguments that are values: the text of a statement isn't.
+fn operands(name: Named, args: &[Expr]) -> &[Expr]
+    ensures { result.now ≡ expressions.operands name args.now }
+{
+    if is_operation(name) && !args.is_empty() {
+        &args[1..]
+    } else {
+        args
+    }
+}
+
 fn wanted_at(wanted: &[Ty], place: usize) -> Ty
     ensures { result ≡ slice_index_or wanted.now place Ty.Unknown }
 {
@@ -187,7 +204,79 @@ fn call_method<F: Fn(&mut Machine, u16, Values) -> Result<Option<Value>, Stop>>(
     run(m, method, values)
 }
 
-// A method of a class, or of String.
+// A statement of SQL is asked for its rows.
+#[inline(never)]
+fn query(
+    around: &Around,
+    m: &mut Machine,
+    slots: &Values,
+    number: u16,
+    site: u16,
+    values: Values,
+) -> Result<Value, Stop>
+    ensures ends { Ends (frame slots.now m.new) result (expressions.invoke (around_of around.now) (Named.Query number site) values (frame slots.now m.old)) }
+    ensures kept { IfKept result (Keeps m.old m.new) }
+    ensures turns { m.old.turns ≤ m.new.turns }
+{
+    m.query(around.alloc, around.facts, number, site, values)
+}
+
+// A statement of SQL changes the tables.
+#[inline(never)]
+fn update(
+    around: &Around,
+    m: &mut Machine,
+    slots: &Values,
+    number: u16,
+    values: Values,
+) -> Result<Value, Stop>
+    ensures ends { Ends (frame slots.now m.new) result (expressions.invoke (around_of around.now) (Named.Update number) values (frame slots.now m.old)) }
+    ensures kept { IfKept result (Keeps m.old m.new) }
+    ensures turns { m.old.turns ≤ m.new.turns }
+{
+    m.update(around.alloc, around.facts, number, values)
+}
+
+// A result set goes on to its next row.
+#[inline(never)]
+fn next(around: &Around, m: &mut Machine, slots: &Values, values: &Values) -> Result<Value, Stop>
+    ensures ends { Ends (frame slots.now m.new) result (expressions.invoke (around_of around.now) Named.Next values.now (frame slots.now m.old)) }
+    ensures kept { IfKept result (Keeps m.old m.new) }
+    ensures turns { m.old.turns ≤ m.new.turns }
+{
+    let null = Value::Null;
+    m.next(around.facts, value_or(values, 0, &null))
+}
+
+// A column of a result set that is a long.
+#[inline(never)]
+fn get_long(around: &Around, m: &Machine, slots: &Values, values: &Values) -> Result<Value, Stop>
+    ensures { Ends (frame slots.now m.now) result (expressions.invoke (around_of around.now) Named.GetLong values.now (frame slots.now m.now)) }
+{
+    let null = Value::Null;
+    m.get_long(
+        around.alloc,
+        around.facts,
+        value_or(values, 0, &null),
+        value_or(values, 1, &null),
+    )
+}
+
+// A column of a result set that is a text.
+#[inline(never)]
+fn get_string(around: &Around, m: &Machine, slots: &Values, values: &Values) -> Result<Value, Stop>
+    ensures { Ends (frame slots.now m.now) result (expressions.invoke (around_of around.now) Named.GetString values.now (frame slots.now m.now)) }
+{
+    let null = Value::Null;
+    m.get_string(
+        around.alloc,
+        around.facts,
+        value_or(values, 0, &null),
+        value_or(values, 1, &null),
+    )
+}
+
+// A method of a class, of String, of `Db` or of a result set.
 #[inline(never)]
 fn invoke<F: Fn(&mut Machine, u16, Values) -> Result<Option<Value>, Stop>>(
     around: &Around,
@@ -199,7 +288,7 @@ fn invoke<F: Fn(&mut Machine, u16, Values) -> Result<Option<Value>, Stop>>(
 ) -> Result<Value, Stop>
     requires callable { F.IsAlwaysCallable run.now }
     requires calls { (m : _) (method : ℕ) (values : _) (r : _) (m' : _) → F.post run.now m method values r m' → CallEnds around.now m.now method values r m'.now }
-    ensures ends { Ends (frame slots.now m.new) result (expressions.invoke (around_of around.now).calls name values (frame slots.now m.old)) }
+    ensures ends { Ends (frame slots.now m.new) result (expressions.invoke (around_of around.now) name values (frame slots.now m.old)) }
     ensures kept { IfKept result (Keeps m.old m.new) }
     ensures turns { m.old.turns ≤ m.new.turns }
 {
@@ -210,6 +299,11 @@ fn invoke<F: Fn(&mut Machine, u16, Values) -> Result<Option<Value>, Stop>>(
         }
         Named::TextLength => text_length(around.alloc, &values),
         Named::TextEquals => text_equals(around.alloc, &values),
+        Named::Query { number, site } => query(around, m, slots, number, site, values),
+        Named::Update { number } => update(around, m, slots, number, values),
+        Named::Next => next(around, m, slots, &values),
+        Named::GetLong => get_long(around, m, slots, &values),
+        Named::GetString => get_string(around, m, slots, &values),
         _ => Ok(Value::Null),
     }
 }
@@ -437,7 +531,7 @@ fn receiver<F: Fn(&mut Machine, u16, Values) -> Result<Option<Value>, Stop>>(
     }
 }
 
-// The receiver, behind the values that are there.
+// The receiver, behind the values that are there. `Db` is no value.
 #[cycle(eval)]
 #[inline(always)]
 fn receive<F: Fn(&mut Machine, u16, Values) -> Result<Option<Value>, Stop>>(
@@ -446,14 +540,18 @@ fn receive<F: Fn(&mut Machine, u16, Values) -> Result<Option<Value>, Stop>>(
     m: &mut Machine,
     slots: &Values,
     of: &Option<Boxed<Expr>>,
+    name: Named,
     values: &mut Values,
 ) -> Result<(), Stop>
     requires callable { F.IsAlwaysCallable run.now }
     requires calls { (m : _) (method : ℕ) (values : _) (r : _) (m' : _) → F.post run.now m method values r m' → CallEnds around.now m.now method values r m'.now }
-    ensures ends { EndsWith (frame slots.now m.new) values.new result (gather values.old (expressions.receiver (option_map (says around.now) of.now) ∷ []) (frame slots.now m.old)) }
+    ensures ends { EndsWith (frame slots.now m.new) values.new result (gather values.old (expressions.received name (option_map (says around.now) of.now)) (frame slots.now m.old)) }
     ensures kept { IfKept result (Keeps m.old m.new) }
     ensures turns { m.old.turns ≤ m.new.turns }
 {
+    if is_operation(name) {
+        return Ok(());
+    }
     let object = receiver(around, run, m, slots, of)?;
     values.push(object)?;
     Ok(())
@@ -525,9 +623,10 @@ fn call<F: Fn(&mut Machine, u16, Values) -> Result<Option<Value>, Stop>>(
     ensures turns { m.old.turns ≤ m.new.turns }
 {
     let mut values = Values::new(around.alloc);
-    receive(around, run, m, slots, of, &mut values)?;
     let name = named_at(around.facts, id);
+    receive(around, run, m, slots, of, name, &mut values)?;
     let wanted = params_of(around.facts, name);
-    arguments(around, run, m, slots, args.as_slice(), wanted, &mut values)?;
+    let args = operands(name, args.as_slice());
+    arguments(around, run, m, slots, args, wanted, &mut values)?;
     invoke(around, run, m, slots, name, values)
 }

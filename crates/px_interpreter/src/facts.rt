@@ -1,8 +1,9 @@
 //! What is known of statements and expressions.
 ghost use Rattle.std.specs.Prelude.{◌≡◌};
+ghost use Rattle.std.specs.Option.{option_copied};
 ghost use Rattle.px_semantics.specs.Facts as mean;
 
-use px_facts::{Element, Facts, Named, Ty};
+use px_facts::{Element, Facts, Named, Operation, Ty};
 use px_ops::Op;
 use px_tree::Sign;
 use px_value::Value;
@@ -44,7 +45,27 @@ pub fn params_of(facts: &Facts, named: Named) -> &[Ty]
 {
     match named {
         Named::Method(method) => params_in(facts, method),
+        Named::Query { number, site: _ } | Named::Update { number } => operands_in(facts, number),
         _ => &[],
+    }
+}
+
+/// A call of `Db`, by its number from 1.
+pub fn operation_at(facts: &Facts, number: u16) -> Option<&Operation>
+    ensures { option_copied result ≡ mean.by_number facts.now.operations number }
+{
+    if number == 0 {
+        return None;
+    }
+    at(facts.operations.as_slice(), usize::from(number) - 1)
+}
+
+fn operands_in(facts: &Facts, number: u16) -> &[Ty]
+    ensures { result.now ≡ mean.operands_in (mean.by_number facts.now.operations number) }
+{
+    match operation_at(facts, number) {
+        Some(operation) => operation.params.as_slice(),
+        None => &[],
     }
 }
 

@@ -2,15 +2,19 @@
 #![tactic(auto)]
 
 mod around;
+mod asked;
 mod calls;
 mod change;
 mod effects;
 mod expressions;
 mod facts;
 mod machine;
+mod operations;
 mod operators;
+mod place;
 mod plain;
 mod prints;
+mod rows;
 mod serial;
 mod statements;
 mod stop;

@@ -2,6 +2,7 @@
 ghost use Rattle.std.specs.Prelude.{◌≡◌};
 ghost use Rattle.px_interpreter.specs.View.{shared_of, Ends, Keeps, IfKept};
 
+use crate::asked::Asked;
 use crate::prints::Prints;
 use crate::store::Store;
 
@@ -11,4 +12,5 @@ pub struct Machine {
     pub prints: Prints,
     /// How many tests of loops and calls of methods there were.
     pub turns: u32,
+    pub asked: Asked,
 }

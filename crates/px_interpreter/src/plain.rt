@@ -1,15 +1,17 @@
-//! Entry calls, one at a time, each on the heap of its session.
+//! Entry calls, one at a time, each on the heap of its session and on the tables.
 ghost use Rattle.std.specs.Prelude.{◌≡◌, ◌<◌, ◌++◌, ◌∷◌, length, replicate, [], IfOk, OnOk};
 ghost use Rattle.std.specs.Option.{option_copied};
 ghost use Rattle.px_value.specs.declared.value.Value.TheVariants.{Ref};
 ghost use Rattle.px_semantics.specs.Facts as mean_facts;
+ghost use Rattle.px_semantics.specs.Asks.{by_tables};
 ghost use Rattle.px_semantics.specs.Entry.{exec, ended, call_of, first_heap as mean_first_heap, reply_of as mean_reply_of};
 ghost use Rattle.px_semantics.specs.Program.{methods_in as mean_methods_in, methods_of as mean_methods_of, source_from};
-ghost use Rattle.px_semantics.specs.Serial.{one_call};
+ghost use Rattle.px_semantics.specs.Serial.{one_call, first_stand};
 ghost use Rattle.px_interpreter.specs.View.{all_now};
-ghost use Rattle.px_interpreter.specs.Plain.{source_with, source_in, stand_of, call_with, left_by, CallsAt};
+ghost use Rattle.px_interpreter.specs.Plain.{source_with, source_in, stands, call_with, left_by, CallsAt};
 
 use crate::around::Around;
+use crate::asked::Asked;
 use crate::calls::enter;
 use crate::effects::defaults;
 use crate::facts::fields_of;
@@ -19,15 +21,16 @@ use crate::stop::Stop;
 use crate::store::Store;
 use px_code::{Reply, Shown};
 use px_facts::{Checked, Facts, Ty};
+use px_rows::Tables;
 use px_tree::{Class, Member, Method};
-use px_value::{Header, Heap, Kind, Value, Values};
+use px_value::{Header, Heap, Kind, Schema, Value, Values};
 use sqlite_items::{Items, at};
 use std::alloc::{AllocError, Global};
 use std::mem;
 
 const MAX_FRAMES: u32 = 200;
 
-/// The heaps of the sessions of a program.
+/// The heaps of the sessions of a program, and its tables.
 #[derive(Drop)]
 pub struct Plain<'a> {
     pub alloc: Global,
@@ -35,6 +38,7 @@ pub struct Plain<'a> {
     pub methods: Vec<&'a Method>,
     /// In order from session 1.
     pub heaps: Vec<Heap>,
+    pub tables: Tables,
 }
 
 /// What a call leaves.
@@ -42,6 +46,7 @@ pub struct Plain<'a> {
 pub struct Called {
     pub shown: Shown,
     pub heap: Heap,
+    pub tables: Tables,
 }
 
 fn push_methods<'a>(methods: &mut Vec<&'a Method>, members: &'a [Member]) -> Result<(), AllocError>
@@ -127,17 +132,26 @@ fn shown_nothing(alloc: Global) -> Shown
     }
 }
 
-// A call of a method on a heap.
+// Tables of a program that declares none, which stand in for those that a call has.
+fn no_tables(alloc: Global) -> Result<Tables, AllocError> {
+    let schema = Schema {
+        tables: Items::new(alloc),
+    };
+    Tables::new(alloc, &schema)
+}
+
+// A call of a method on a heap and on the tables.
 #[tactic(auto, unfolding(px_semantics::specs::Entry::all_frames))]
 fn call_on(
     alloc: Global,
     facts: &Facts,
     methods: &[&Method],
     heap: Heap,
+    tables: Tables,
     method: u16,
     args: &[Value],
 ) -> Result<Called, AllocError>
-    ensures { IfOk result (λ c. ended heap tt (exec (source_with facts.now methods.now) heap tt method args.now) ≡ left_by c) }
+    ensures { IfOk result (λ c. ended heap tables (exec by_tables (source_with facts.now methods.now) heap tables method args.now) ≡ left_by c) }
 {
     let values = values_of(alloc, args)?;
     let around = Around {
@@ -151,6 +165,7 @@ fn call_on(
         store: Store::new(alloc, heap),
         prints: Prints::new(alloc),
         turns: 0,
+        asked: Asked::new(alloc, tables),
     };
     match enter(&around, &mut m, method, values) {
         Ok(given) => Ok(Called {
@@ -159,6 +174,7 @@ fn call_on(
                 prints: Items::from_vec(m.prints.into_lines()),
             },
             heap: m.store.into_heap(),
+            tables: m.asked.into_tables(),
         }),
         Err(Stop::Threw(thrown)) => Ok(Called {
             shown: Shown {
@@ -166,36 +182,45 @@ fn call_on(
                 prints: Items::new(alloc),
             },
             heap: m.store.into_old_heap(),
+            tables: m.asked.into_old_tables(),
         }),
         Err(Stop::NoMemory) => Err(AllocError),
     }
 }
 
-// A call of an entry, by its place, on a heap.
+// A call of an entry, by its place, on a heap and on the tables.
 #[tactic(auto, unfolding(px_semantics::specs::Entry::call_of))]
 fn call_entry(
     alloc: Global,
     facts: &Facts,
     methods: &[&Method],
     heap: Heap,
+    tables: Tables,
     entry: usize,
     args: &[Value],
 ) -> Result<Called, AllocError>
-    ensures { IfOk result (λ c. call_of (source_with facts.now methods.now) heap tt entry args.now ≡ left_by c) }
+    ensures { IfOk result (λ c. call_of by_tables (source_with facts.now methods.now) heap tables entry args.now ≡ left_by c) }
 {
     match at(facts.main.entries.as_slice(), entry) {
-        Some(entry) => call_on(alloc, facts, methods, heap, entry.method, args),
+        Some(entry) => call_on(alloc, facts, methods, heap, tables, entry.method, args),
         None => Ok(Called {
             shown: shown_nothing(alloc),
             heap,
+            tables,
         }),
     }
 }
 
 impl<'a> Plain<'a> {
-    pub fn new(alloc: Global, checked: &'a Checked, sessions: u16) -> Result<Plain<'a>, AllocError>
+    /// Sessions that have made no call, on these tables.
+    pub fn new(
+        alloc: Global,
+        checked: &'a Checked,
+        sessions: u16,
+        tables: Tables,
+    ) -> Result<Plain<'a>, AllocError>
         ensures source { IfOk result (λ p. source_in p ≡ source_from checked.now) }
-        ensures heaps { IfOk result (λ p. p.heaps.items ≡ replicate sessions (mean_first_heap checked.now.facts)) }
+        ensures stand { IfOk result (λ p. stands p ≡ first_stand (source_from checked.now) sessions tables) }
     {
         let methods = methods_of(alloc, checked.program.classes.as_slice())?;
         let heaps = first_heaps(alloc, &checked.facts, sessions)?;
@@ -204,30 +229,35 @@ impl<'a> Plain<'a> {
             facts: &checked.facts,
             methods,
             heaps,
+            tables,
         })
     }
 
     fn call_at(&mut self, place: usize, entry: usize, args: &[Value]) -> Result<Shown, AllocError>
         requires { place < length self.old.heaps.items }
-        ensures calls { IfOk result (λ shown. CallsAt (source_in self.old) self.old.heaps.items place entry args.now shown self.new.heaps.items) }
+        ensures calls { IfOk result (λ shown. CallsAt (source_in self.old) (stands self.old) place entry args.now shown (stands self.new)) }
         ensures source { source_in self.new ≡ source_in self.old }
     {
+        let none = no_tables(self.alloc)?;
+        let tables = mem::replace(&mut self.tables, none);
         let heap = mem::replace(&mut self.heaps[place], Heap::new(self.alloc));
         let called = call_entry(
             self.alloc,
             self.facts,
             self.methods.as_slice(),
             heap,
+            tables,
             entry,
             args,
         )?;
         self.heaps[place] = called.heap;
+        self.tables = called.tables;
         Ok(called.shown)
     }
 
     /// A call of an entry, by its place, by a session from 1. What isn't there does nothing.
     pub fn call(&mut self, session: u16, entry: usize, args: &[Value]) -> Result<Shown, AllocError>
-        ensures call { IfOk result (λ shown. one_call (source_in self.old) (call_with session entry args.now) (stand_of self.old.heaps.items) ≡ (shown, stand_of self.new.heaps.items)) }
+        ensures call { IfOk result (λ shown. one_call by_tables (source_in self.old) (call_with session entry args.now) (stands self.old) ≡ (shown, stands self.new)) }
         ensures source { source_in self.new ≡ source_in self.old }
     {
         let number = usize::from(session);
@@ -249,5 +279,11 @@ impl<'a> Plain<'a> {
             return None;
         }
         at(self.heaps.as_slice(), number - 1)
+    }
+
+    pub fn tables(&self) -> &Tables
+        ensures { result.now ≡ self.now.tables }
+    {
+        &self.tables
     }
 }

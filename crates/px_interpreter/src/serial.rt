@@ -5,6 +5,7 @@ ghost use Rattle.px_interpreter.specs.Serial.{told_call, serial_of, ran_of};
 use crate::plain::Plain;
 use px_code::Shown;
 use px_facts::Checked;
+use px_rows::Tables;
 use px_value::{Heap, Value};
 use std::alloc::{AllocError, Global};
 
@@ -25,18 +26,20 @@ pub struct Ran {
     pub shown: Vec<Shown>,
     /// The heaps of the sessions.
     pub heaps: Vec<Heap>,
+    pub tables: Tables,
 }
 
-/// The calls one after the other, by so many sessions as new.
+/// The calls one after the other, on these tables, by so many sessions as new.
 pub fn serve(
     alloc: Global,
     checked: &Checked,
+    tables: Tables,
     sessions: u16,
     calls: &[Call<'_>],
 ) -> Result<Ran, AllocError>
-    ensures { IfOk result (λ ran. serial_of checked.now sessions (map told_call calls.now) ≡ ran_of ran.shown.items ran.heaps.items) }
+    ensures { IfOk result (λ ran. serial_of checked.now sessions tables (map told_call calls.now) ≡ ran_of ran.shown.items ran.heaps.items ran.tables) }
 {
-    let mut plain = Plain::new(alloc, checked, sessions)?;
+    let mut plain = Plain::new(alloc, checked, sessions, tables)?;
     let mut shown = Vec::new(alloc);
     for call in calls {
         shown.push(plain.call(call.session, call.entry, call.args)?)?;
@@ -44,5 +47,6 @@ pub fn serve(
     Ok(Ran {
         shown,
         heaps: plain.heaps,
+        tables: plain.tables,
     })
 }
