@@ -1,5 +1,5 @@
 -- What a job file means.
-use Rattle.std.specs.Prelude.{◌≡◌, ℕ, ◌+◌, List, [], ◌∷◌, repeat, unwrap_or, Option, Some, None, Result, Ok, Err, if◌then◌else◌}
+use Rattle.std.specs.Prelude.{◌≡◌, ℕ, ◌+◌, List, [], ◌∷◌, replicate, unwrap_or, Option, Some, None, Result, Ok, Err, if◌then◌else◌}
 use Rattle.px_value.specs.declared.schema.Schema.{Schema}
 use Rattle.px_value.specs.declared.schema.Table.{Table}
 use Rattle.px_facts.specs.declared.checked.Entry.{Entry}
@@ -40,7 +40,7 @@ drafted_from entries tables sessions number draft (line ∷ lines) = joined numb
 
 -- no line yet, and no reading of so many sessions
 abbrev pub nothing_yet : ℕ → Draft
-nothing_yet sessions = record { stood = nothing_stood; rows = []; calls = []; loads = repeat [] sessions; order = None }
+nothing_yet sessions = record { stood = nothing_stood; rows = []; calls = []; loads = replicate sessions []; order = None }
 
 abbrev pub job_with : Settings → Draft → Job
 job_with settings draft = record { settings = settings; rows = draft.rows; calls = draft.calls; loads = draft.loads; order = unwrap_or draft.order [] }

@@ -1,6 +1,6 @@
 //! Rows, and their keys for look-up.
 
-ghost use Rattle.std.specs.Prelude.{◌≡◌, [], ◌∷◌, ◌++◌, length, OnOk};
+ghost use Rattle.std.specs.Prelude.{◌≡◌, [], ◌∷◌, ◌++◌, length, OnOk, IfOk};
 ghost use Rattle.px_job.specs.Rows.{number_stands, text_stands, key_stands};
 
 use crate::job::Row;

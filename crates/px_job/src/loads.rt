@@ -1,9 +1,9 @@
 //! Lines that begin with `load` or `order`.
 
-ghost use Rattle.std.specs.Prelude.{◌≡◌, ◌≤◌, ◌<◌, ◌+◌, ◌-◌, ◌++◌, [], ◌∷◌, length, slice_get, slice_set, OnOk, repeat};
+ghost use Rattle.std.specs.Prelude.{◌≡◌, ◌≤◌, ◌<◌, ◌+◌, ◌-◌, ◌++◌, [], ◌∷◌, length, slice_get, slice_set, OnOk, IfOk, List, ℕ, Some, replicate};
 ghost use Rattle.std.specs.Option.{option_copied, option_map};
 ghost use Rattle.px_job.specs.Words.{words_of};
-ghost use Rattle.px_job.specs.Loads.{judged_load, judged_order};
+ghost use Rattle.px_job.specs.Loads.{loads_with, judged_load, judged_order};
 ghost use Rattle.px_job.specs.Judging.{Judges, Makes};
 
 use crate::arguments::is_digits;
@@ -41,7 +41,7 @@ impl Model for Loads {
 impl Loads {
     /// Empty lists for so many sessions.
     pub(crate) fn new(alloc: Global, sessions: u16) -> Result<Loads, AllocError>
-        ensures { IfOk result (λ loads. loads ≡ repeat [] sessions) }
+        ensures { IfOk result (λ loads. loads ≡ replicate sessions []) }
     {
         let mut lists = Vec::new(alloc);
         for _session in 0..sessions {

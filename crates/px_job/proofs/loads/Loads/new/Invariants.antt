@@ -1,5 +1,5 @@
-use Rattle.std.proofs.Common.{◌≡◌, ◌++◌, ◌-◌, [], repeat}
+use Rattle.std.proofs.Common.{◌≡◌, [], replicate}
 use Rattle.px_job.proofs.loads.Loads.new.Given as goal
 
-abbrev pub invariant-loop-_session : goal.invariant-loop-_session
-invariant-loop-_session l = l.lists.items ≡ repeat [] l._session-index
+abbrev pub invariant-loop-session : goal.invariant-loop-session
+invariant-loop-session l = l.lists.items ≡ replicate l._session-index []
