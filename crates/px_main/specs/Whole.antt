@@ -4,6 +4,7 @@ use Rattle.px_tree.specs.declared.Program.{Program}
 use Rattle.px_facts.specs.declared.checked.Checked.{Checked}
 use Rattle.px_grammar.specs.Programs.{IsProgram}
 use Rattle.px_grammar.specs.Places.{IsRefusedAt}
+use Rattle.px_grammar.specs.Places.{line_at}
 use Rattle.px_sql.specs.Tables.{schema_of}
 use Rattle.px_value.specs.declared.schema.Schema.{Schema}
 use Rattle.px_tree.specs.declared.TableDecl.{TableDecl}
@@ -29,7 +30,7 @@ by_rules program schema (Some breach) = Err (fault_at (line_in (slice_get progra
 -- a table is at the line of its name
 abbrev pub table_line : Program → Option TableDecl → ℕ
 table_line program None = 0
-table_line program (Some table) = line_in (slice_get program.tokens table.name.token)
+table_line program (Some table) = line_at program.tokens table.name.token
 
 -- Tables stand before all else, so the first that breaks its rule is the first breach.
 abbrev pub by_tables : Program → Result Schema ℕ → Found

@@ -6,6 +6,7 @@ mod meaning;
 mod outside;
 mod rules;
 mod solo;
+mod tables;
 
 use crate::top::still;
 use px_outside::{File, MemoryShelf, MemorySink, Shelf, Sink};

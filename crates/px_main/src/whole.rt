@@ -8,8 +8,8 @@ ghost use Rattle.px_main.specs.Whole.{fault_in as fault_of, by_rules, by_tables,
 
 use crate::fault::{Fault, ProgramCode};
 use px_facts::Checked;
-use px_grammar::{ParseError, parse};
-use px_rules::{CheckError, check, line_at};
+use px_grammar::{ParseError, line_at, parse};
+use px_rules::{CheckError, check};
 use px_sql::{SchemaError, read_schema};
 use px_tree::Program;
 use px_value::Schema;
@@ -39,7 +39,7 @@ fn line_of_table(program: &Program, index: u32) -> u32
     ensures { result ≡ table_line program.now (slice_get program.now.tables index) }
 {
     match at(program.tables.as_slice(), index as usize) {
-        Some(table) => line_at(program.tokens.as_slice(), table.name.token),
+        Some(table) => line_at(program.tokens.as_slice(), table.name.token as usize),
         None => 0,
     }
 }
