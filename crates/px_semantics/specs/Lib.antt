@@ -8,4 +8,5 @@ pub mod Statements
 pub mod Calls
 pub mod Program
 pub mod Entry
+pub mod Laws
 pub mod Serial
