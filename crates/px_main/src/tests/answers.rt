@@ -43,11 +43,11 @@ const DONE: [Case; 6] = [
 
 const PROGRAM_REFUSED: [Case; 6] = [
     (
-        "a form that isn't built",
-        "\nCREATE TABLE t (id LONG);\nclass Main { }\n",
+        "a key that is a text",
+        "\nCREATE TABLE t (id TEXT);\nclass Main { }\n",
         "",
         5,
-        "program 2 Later\n",
+        "program 2 T16\n",
     ),
     (
         "a name that isn't declared",
@@ -65,11 +65,11 @@ const PROGRAM_REFUSED: [Case; 6] = [
     ),
     ("an empty file", "", "", 5, "program 1 Syntax\n"),
     (
-        "a form that isn't built, in no program",
+        "a result set, in no program",
         "class Main {\n  ResultSet\n",
         "",
         5,
-        "program 2 Later\n",
+        "program 3 Syntax\n",
     ),
     (
         "a program before its job",
@@ -82,11 +82,11 @@ const PROGRAM_REFUSED: [Case; 6] = [
 
 const JOB_REFUSED: [Case; 11] = [
     (
-        "a line that isn't built",
+        "a row of no table",
         PROGRAM,
         "row t 1",
         6,
-        "job 1 Later\n",
+        "job 1 J6\n",
     ),
     ("a part", PROGRAM, "part p upto 1000", 6, "job 1 Later\n"),
     (

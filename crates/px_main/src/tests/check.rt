@@ -56,15 +56,15 @@ const CHECKED: [Case; 15] = [
         "a table",
         "CREATE TABLE t (id LONG);\nclass Main { }\n",
         "",
-        5,
-        "program 1 Later\n",
+        0,
+        "ok\n",
     ),
     (
         "a use of tables, in no program",
         "class Main {\n  ResultSet\n",
         "",
         5,
-        "program 2 Later\n",
+        "program 3 Syntax\n",
     ),
     (
         "CREATE is a name elsewhere",

@@ -108,9 +108,9 @@ const RUNS: [Case; 7] = [
     (
         "nulls, long texts, too many operations, and columns that aren't there",
         TEXTS,
-        "row t 1 \"a\" \"\"\ncall 1 add 2 \"\" null\ncall 1 twice 255 \"\"\ncall 1 twice 250 \"\"\ncall 1 twice 251 \"\"\ncall 1 twice 249 \"abcdefg\"\ncall 1 often 100\ncall 1 often 101\ncall 1 nulls 100\ncall 1 text 1 0\ncall 1 text 1 1\ncall 1 text 1 2\ncall 1 text 0 1\ncall 1 text 3 1\ncall 1 text 2 1\ncall 1 number 2\ncall 1 number 1\ncall 1 none\n",
+        "row t 1 \"a\" \"\"\ncall 1 add 2 \"\" null\ncall 1 twice 255 \"\"\ncall 1 twice 250 \"\"\ncall 1 twice 251 \"\"\ncall 1 twice 249 \"abcdefg\"\ncall 1 twice 1 \"a\"\ncall 1 often 100\ncall 1 often 101\ncall 1 nulls 100\ncall 1 text 1 0\ncall 1 text 1 1\ncall 1 text 1 2\ncall 1 text 0 1\ncall 1 text 3 1\ncall 1 text 2 1\ncall 1 number 2\ncall 1 number 1\ncall 1 none\n",
         0,
-        "calls\ncall 1 1 threw SQLException\ncall 1 2 threw TextTooLong\ncall 1 3 1\ncall 1 4 threw TextTooLong\ncall 1 5 threw TextTooLong\ncall 1 6 100\ncall 1 7 threw OpsOut\ncall 1 8 threw SQLException\ncall 1 9 threw SQLException\ncall 1 10 \"xxxxxxxxxxxxxxxxxxxxxxxxxxxxxxxxxxxxxxxxxxxxxxxxxxxxxxxxxxxxxxxxxxxxxxxxxxxxxxxxxxxxxxxxxxxxxxxxxxxxxxxxxxxxxxxxxxxxxxxxxxxxxxxxxxxxxxxxxxxxxxxxxxxxxxxxxxxxxxxxxxxxxxxxxxxxxxxxxxxxxxxxxxxxxxxxxxxxxxxxxxxxxxxxxxxxxxxxxxxxxxxxxxxxxxxxxxxxxxxxxxxxxxxxxxxxxx\"\n",
+        "calls\ncall 1 1 threw SQLException\ncall 1 2 threw TextTooLong\ncall 1 3 1\ncall 1 4 threw TextTooLong\ncall 1 5 threw TextTooLong\ncall 1 6 1\ncall 1 7 100\ncall 1 8 threw OpsOut\ncall 1 9 threw SQLException\ncall 1 10 threw SQLException\ncall 1 11 \"x\"\ncall 1 12 threw SQLException\ncall 1 13 threw SQLException\ncall 1 14 threw SQLException\ncall 1 15 threw SQLException\ncall 1 16 1\ncall 1 17 threw SQLException\ncall 1 18 threw NullPointerException\ntables\ntable t\nrow 1 \"x\" \"xa\"\nheaps\nheap 1\n0 Main\n1 Rows 1 \"x\" 1\n2 Rows 1 \"x\" 1\ndone\n",
     ),
 ];
 
