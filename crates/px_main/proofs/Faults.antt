@@ -16,8 +16,8 @@ checked_by : (p : Program) (S : Schema) (c : Checked) (first : Option Breach) �
 checked_by p S c None is none = ap (λ (x : Checked). Ok x) is
 checked_by p S c (Some b) is none = cc
 
-pub checked_found : (p : Program) (S : Schema) (c : Checked) → c ≡ rules.checked_of p S → rules.fault_of p S ≡ None → Ok c ≡ by_rules p S (first_breach_of p S)
-checked_found p S c is none = checked_by p S c (first_breach_of p S) is none
+pub checked_found : (p : Program) (S : Schema) (c : Checked) → c ≡ rules.checked_of p S → rules.fault_of p S ≡ None → Ok c ≡ by_rules p S (first_breach_of S p)
+checked_found p S c is none = checked_by p S c (first_breach_of S p) is none
 
 abbrev line_of : Option CheckError → ℕ
 line_of (Some (TypeFault line code)) = line
@@ -34,5 +34,5 @@ fault_by p S line code (Some b) is =
     let codes = ap code_of is in
     sym (λ i. Err (fault_at (lines i) (Rule (codes i))))
 
-pub fault_found : (p : Program) (S : Schema) (line code : ℕ) → rules.fault_of p S ≡ Some (TypeFault line code) → Err (fault_at line (Rule code)) ≡ by_rules p S (first_breach_of p S)
-fault_found p S line code is = fault_by p S line code (first_breach_of p S) is
+pub fault_found : (p : Program) (S : Schema) (line code : ℕ) → rules.fault_of p S ≡ Some (TypeFault line code) → Err (fault_at line (Rule code)) ≡ by_rules p S (first_breach_of S p)
+fault_found p S line code is = fault_by p S line code (first_breach_of S p) is

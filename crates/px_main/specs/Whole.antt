@@ -35,7 +35,7 @@ table_line program (Some table) = line_at program.tokens table.name.token
 -- Tables stand before all else, so the first that breaks its rule is the first breach.
 abbrev pub by_tables : Program → Result Schema ℕ → Found
 by_tables program (Err index) = Err (fault_at (table_line program (slice_get program.tables index)) (Rule 16))
-by_tables program (Ok schema) = by_rules program schema (first_breach_of program schema)
+by_tables program (Ok schema) = by_rules program schema (first_breach_of schema program)
 
 -- What is found in a text: it is no program, from the first token with which none goes on; or it is the one program that the grammar
 -- gives it, which breaks a rule or keeps them all.

@@ -22,7 +22,7 @@ fn check_over(
     program: Program,
     schema: Schema,
 ) -> Result<Result<Checked, Fault>, AllocError>
-    ensures { IfOk result (λ found. found ≡ by_rules program schema (first_breach_of program schema)) }
+    ensures { IfOk result (λ found. found ≡ by_rules program schema (first_breach_of schema program)) }
 {
     match check(alloc, program, schema) {
         Ok(checked) => Ok(Ok(checked)),
