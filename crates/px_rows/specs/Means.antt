@@ -2,15 +2,14 @@
 use Rattle.std.specs.Prelude.{ℕ, ℤ, pos, ◌-◌, min, Bool, true, false, List, [], ◌∷◌, ◌++◌, length, map, filter, flat_map, Option, Some, None, option_to_list, slice_get, slice_set, if◌then◌else◌}
 use Rattle.std.specs.Ordering.{int_eq}
 use Rattle.std.specs.Str.{bytes_eq}
-use Rattle.std.specs.FinMap.{get}
 use Rattle.px_value.specs.declared.value.Value.{Value}
-use Rattle.px_value.specs.declared.value.Value.TheVariants.{Int, Long, Bool as Truth, Text, Null, Ref}
+use Rattle.px_value.specs.declared.value.Value.TheVariants.{Int, Long, Text, Null}
 use Rattle.px_value.specs.declared.statement.Statement.{Statement}
 use Rattle.px_value.specs.declared.statement.Statement.TheVariants.{ByKey, ByColumn, All, Update, Insert, Delete}
 use Rattle.px_value.specs.declared.statement.TableOp.{TableOp}
 use Rattle.px_value.specs.declared.answer.Answer.{Answer}
 use Rattle.px_value.specs.declared.answer.Answer.TheVariants.{Rows, Count, Refused}
-use Rattle.px_rows.specs.Tables.{Row, Table, Tables, Place, Old, row_at, rows_of, with_row}
+use Rattle.px_rows.specs.Tables.{Row, Tables, Place, Old, row_at, rows_of, with_row}
 
 -- ---- places
 
@@ -78,14 +77,17 @@ seen_by o T = if by_key o.statement then option_to_list (row_at T (place_of o)) 
 abbrev pub selected : List ℕ → List Row → Answer
 selected columns rows = Rows (min (length columns) 255) (cells_of columns rows)
 
+abbrev pub inserted : List Row → Answer
+inserted [] = Count 1
+inserted (row ∷ rows) = Refused
+
 -- what it says of the rows that it looks at
 abbrev pub told : Statement → List Value → List Row → Answer
 told (ByKey table columns) params rows = selected columns rows
 told (ByColumn table columns column) params rows = selected columns (rows_with column (first_of params) rows)
 told (All table columns) params rows = selected columns rows
 told (Update table columns) params rows = Count (length rows)
-told (Insert table) params [] = Count 1
-told (Insert table) params (row ∷ rows) = Refused
+told (Insert table) params rows = inserted rows
 told (Delete table) params rows = Count (length rows)
 
 unfoldable pub answer_to : TableOp → Tables → Answer
@@ -106,13 +108,8 @@ written_by (Insert table) params None = Some (Some params)
 written_by (Delete table) params (Some row) = Some None
 written_by _ params found = None
 
--- in a table that there isn't nothing is written
-abbrev pub write_in : Option Table → TableOp → Option (Option Row)
-write_in None o = None
-write_in (Some t) o = written_by o.statement o.params (get t (key_of o.statement o.params))
-
 abbrev pub write_of : TableOp → Tables → Option (Option Row)
-write_of o T = write_in (slice_get T (table_of o.statement)) o
+write_of o T = written_by o.statement o.params (row_at T (place_of o))
 
 abbrev pub after_write : Option (Option Row) → Place → Tables → Tables
 after_write None c T = T

@@ -1,6 +1,6 @@
 -- Tables as values: of each table the rows by their keys.
-use Rattle.std.specs.Prelude.{ℕ, ℤ, Bool, ◌==◌, ◌&&◌, List, [], ◌∷◌, map, Option, Some, None, slice_get, slice_set}
-use Rattle.std.specs.Ordering.{int_cmp, int_eq}
+use Rattle.std.specs.Prelude.{ℕ, ℤ, Bool, List, [], ◌∷◌, map, Option, Some, None, slice_get, slice_set}
+use Rattle.std.specs.Ordering.{int_cmp}
 use Rattle.std.specs.FinMap.{FinMap, empty, get, contains_key, insert, remove, values}
 use Rattle.px_value.specs.declared.value.Value.{Value}
 use Rattle.px_value.specs.declared.schema.Table.{Table as Declared}
@@ -52,7 +52,7 @@ unfoldable pub put_row : ℤ → Option Row → Table → Table
 put_row k None t = remove t k
 put_row k (Some row) t = insert t k row
 
--- the tables with this row, or none, at a place
+-- the tables with this row, or none, at a place; in a table that there isn't nothing is written
 unfoldable pub with_row : Tables → Place → Option Row → Tables
 with_row T c row = slice_set T c.table (put_row c.key row (table_at T c.table))
 

@@ -1,5 +1,5 @@
 //! The row that a write leaves.
-ghost use Rattle.std.specs.Prelude.{◌≡◌, IfOk, Some};
+ghost use Rattle.std.specs.Prelude.{◌≡◌, IfOk, OnOk, Some};
 ghost use Rattle.std.specs.Option.{option_copied, option_map};
 ghost use Rattle.px_rows.specs.Means.{assigned, written_by, table_of, key_of};
 
@@ -31,22 +31,28 @@ pub fn key_of_op(op: &TableOp) -> i64
     }
 }
 
-fn assigned_row(
+/// Sets these columns to the first parameters.
+fn assign(
     alloc: Global,
     columns: &[u8],
     params: &[Value],
-    row: &Values,
-) -> Result<Values, AllocError>
-    ensures { IfOk result (λ new. new ≡ assigned columns.now params.now row.now) }
+    row: &mut Values,
+) -> Result<(), AllocError>
+    ensures { OnOk result (row.new ≡ assigned columns.now params.now row.old) }
 {
-    let mut new = copied(alloc, row)?;
-    for (column, param) in columns.iter().zip(params) {
-        let column = usize::from(*column);
-        if column < new.len() {
-            new.replace(column, param.copy(alloc)?);
-        }
+    match columns {
+        [] => Ok(()),
+        [column, columns @ ..] => match params {
+            [] => Ok(()),
+            [param, params @ ..] => {
+                let column = usize::from(*column);
+                if column < row.len() {
+                    row.replace(column, param.copy(alloc)?);
+                }
+                assign(alloc, columns, params, row)
+            }
+        },
     }
-    Ok(new)
 }
 
 fn node(alloc: Global, row: Values) -> Result<Option<Box<Node>>, AllocError>
@@ -65,7 +71,8 @@ pub fn write(
 {
     match (&op.statement, found) {
         (Statement::Update { columns, .. }, Some(row)) => {
-            let new = assigned_row(alloc, columns.as_slice(), op.params.as_slice(), row)?;
+            let mut new = copied(alloc, row)?;
+            assign(alloc, columns.as_slice(), op.params.as_slice(), &mut new)?;
             Ok(Some(node(alloc, new)?))
         }
         (Statement::Insert { .. }, None) => Ok(Some(node(alloc, copied(alloc, &op.params)?)?)),

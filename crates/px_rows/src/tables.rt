@@ -1,19 +1,19 @@
 //! All tables of a program.
 ghost use Rattle.std.specs.Prelude.{◌≡◌, ◌++◌, [], length, map, is_some, IfOk, OnOk, OnErr, IsErrOf, IsTrue, ◌↔◌};
-ghost use Rattle.std.specs.Option.{option_copied};
-ghost use Rattle.px_rows.specs.Tables.{empty_tables, row_at, has_key, rows_of, undone};
+ghost use Rattle.std.specs.Option.{option_copied, option_map};
+ghost use Rattle.px_rows.specs.Tables.{empty_tables, row_at, has_key, rows_of, with_row, undone};
 ghost use Rattle.px_rows.specs.Means.{answer_to, after, old_of, loaded, place_of, place_of_row, seen_by};
 
 use crate::change::{key_of_op, table_of_statement, write};
-use crate::choice::{cells, cells_with, rows_of_width};
+use crate::choice::{cells, cells_of_found, cells_with, counted, inserted, rows_of_width};
 use crate::copy::copied;
 use crate::key::key_at;
 use crate::load::LoadError;
 use crate::rows::Rows;
 use crate::tree::Node;
 use crate::undo::{Past, Undo};
-use px_value::{Answer, Schema, Statement, TableOp, Value, Values};
-use sqlite_items::Items;
+use px_value::{Answer, Schema, Statement, TableOp, Values};
+use sqlite_items::{Items, at};
 use std::alloc::{AllocError, Global};
 use std::marker::Model;
 
@@ -61,34 +61,56 @@ impl Tables {
         ensures ok { OnOk result (self.new ≡ loaded table row self.old) }
         ensures err { OnErr result (self.new ≡ self.old) }
     {
-        let table = usize::from(table);
-        if table >= self.tables.len() {
-            return Ok(());
-        }
         let key = key_at(&row, 0);
-        if self.tables[table].get(key).is_some() {
+        if self.row(table, key).is_some() {
             return Err(LoadError::Doubled);
         }
         let node = Box::new(alloc, Node::new(row))?;
-        self.tables[table].set(key, Some(node));
+        self.set(table, key, Some(node));
         Ok(())
+    }
+
+    /// Leaves the row, or none, at the key. What stood there comes back.
+    fn set(&mut self, table: u16, key: i64, node: Option<Box<Node>>) -> Option<Box<Node>>
+        ensures old { option_map (λ n. n.value.row) result ≡ row_at self.old (record { table = table; key = key }) }
+        ensures new { self.new ≡ with_row self.old (record { table = table; key = key }) (option_map (λ n. n.value.row) node) }
+    {
+        let place = usize::from(table);
+        if place < self.tables.len() {
+            self.tables[place].set(key, node)
+        } else {
+            None
+        }
     }
 
     fn row(&self, table: u16, key: i64) -> Option<&Values>
         ensures { option_copied result ≡ row_at self.now (record { table = table; key = key }) }
     {
-        let rows = self.tables.get(usize::from(table))?;
-        rows.get(key)
+        match at(self.tables.as_slice(), usize::from(table)) {
+            Some(rows) => rows.get(key),
+            None => None,
+        }
     }
 
     /// The rows of a table in order of the key.
-    pub fn rows(&self, alloc: Global, table: usize) -> Result<Vec<&Values>, AllocError>
+    fn list(&self, alloc: Global, table: u16) -> Result<Vec<&Values>, AllocError>
         ensures { IfOk result (λ rows. map (λ r. r.now) rows.items ≡ rows_of self.now table) }
     {
-        match self.tables.get(table) {
+        match at(self.tables.as_slice(), usize::from(table)) {
             Some(rows) => rows.list(alloc),
             None => Ok(Vec::new(alloc)),
         }
+    }
+
+    /// A copy of the rows of a table in order of the key.
+    pub fn rows(&self, alloc: Global, table: u16) -> Result<Items<Values>, AllocError>
+        ensures { IfOk result (λ rows. rows ≡ rows_of self.now table) }
+    {
+        let mut rows = Items::new(alloc);
+        for row in &self.list(alloc, table)? {
+            rows.push(copied(alloc, row)?)?;
+        }
+        Ok(rows)
     }
 
     /// What the operation answers on these tables.
@@ -98,10 +120,7 @@ impl Tables {
         match &op.statement {
             Statement::ByKey { columns, .. } => {
                 let columns = columns.as_slice();
-                let cells = match self.found(op) {
-                    Some(row) => cells(alloc, columns, &[row])?,
-                    None => Values::new(alloc),
-                };
+                let cells = cells_of_found(alloc, columns, self.found(op))?;
                 Ok(rows_of_width(columns, cells))
             }
             Statement::ByColumn {
@@ -109,26 +128,20 @@ impl Tables {
                 columns,
                 column,
             } => {
-                let rows = self.rows(alloc, usize::from(*table))?;
+                let rows = self.list(alloc, *table)?;
                 let columns = columns.as_slice();
-                let wanted = op.params.get(0).unwrap_or(&Value::Null);
-                let cells = cells_with(alloc, columns, rows.as_slice(), *column, wanted)?;
+                let cells = cells_with(alloc, columns, rows.as_slice(), *column, &op.params)?;
                 Ok(rows_of_width(columns, cells))
             }
             Statement::All { table, columns } => {
-                let rows = self.rows(alloc, usize::from(*table))?;
+                let rows = self.list(alloc, *table)?;
                 let columns = columns.as_slice();
                 let cells = cells(alloc, columns, rows.as_slice())?;
                 Ok(rows_of_width(columns, cells))
             }
-            Statement::Insert { .. } => match self.found(op) {
-                Some(_) => Ok(Answer::Refused),
-                None => Ok(Answer::Count(1)),
-            },
-            Statement::Update { .. } | Statement::Delete { .. } => match self.found(op) {
-                Some(_) => Ok(Answer::Count(1)),
-                None => Ok(Answer::Count(0)),
-            },
+            Statement::Update { .. } => Ok(counted(self.found(op))),
+            Statement::Insert { .. } => Ok(inserted(self.found(op))),
+            Statement::Delete { .. } => Ok(counted(self.found(op))),
         }
     }
 
@@ -140,28 +153,19 @@ impl Tables {
     }
 
     /// Does what the operation writes. The rows that it changes go to the undo.
-    pub fn apply(
-        &mut self,
-        alloc: Global,
-        op: &TableOp,
-        undo: &mut Undo,
-    ) -> Result<(), AllocError>
+    pub fn apply(&mut self, alloc: Global, op: &TableOp, undo: &mut Undo) -> Result<(), AllocError>
         ensures ok { OnOk result (self.new ≡ after op.now self.old) }
         ensures undo { OnOk result (undo.new ≡ undo.old ++ old_of op.now self.old) }
         ensures err { OnErr result (self.new ≡ self.old) }
         ensures undo_err { OnErr result (undo.new ≡ undo.old) }
     {
-        let table = table_of_statement(&op.statement);
-        let at = usize::from(table);
-        if at >= self.tables.len() {
-            return Ok(());
-        }
-        let key = key_of_op(op);
-        let Some(left) = write(alloc, op, self.tables[at].get(key))? else {
+        let Some(left) = write(alloc, op, self.found(op))? else {
             return Ok(());
         };
         undo.pasts.reserve(1)?;
-        let node = self.tables[at].set(key, left);
+        let table = table_of_statement(&op.statement);
+        let key = key_of_op(op);
+        let node = self.set(table, key, left);
         undo.pasts.push_reserved(Past { table, key, node });
         Ok(())
     }
@@ -172,10 +176,7 @@ impl Tables {
         ensures none_left { undo.new ≡ [] }
     {
         while let Some(past) = undo.pasts.pop() {
-            let at = usize::from(past.table);
-            if at < self.tables.len() {
-                self.tables[at].set(past.key, past.node);
-            }
+            self.set(past.table, past.key, past.node);
         }
     }
 }

@@ -88,16 +88,13 @@ impl Tree {
     }
 
     /// The row that stood at the key.
-    pub fn put(&mut self, key: i64, mut node: Box<Node>) -> Option<Box<Node>>
+    pub fn put(&mut self, key: i64, node: Box<Node>) -> Option<Box<Node>>
         requires { IsSorted self.old }
         ensures old { option_map (λ n. n.value.row) result ≡ find int_cmp key self.old }
         ensures new { self.new ≡ put_entry int_cmp key node.value.row self.old }
     {
         let parts = split(mem::replace(self, Tree::new()), key);
-        node.left = Tree::new();
-        node.key = key;
-        node.right = Tree::new();
-        *self = join(join(parts.below, Tree { root: Some(node) }), parts.above);
+        *self = join(join(parts.below, alone(key, node)), parts.above);
         parts.found
     }
 
@@ -125,6 +122,15 @@ impl Tree {
         *self = join(parts.below, parts.above);
         parts.found
     }
+}
+
+fn alone(key: i64, mut node: Box<Node>) -> Tree
+    ensures { result ≡ (key, node.value.row) ∷ [] }
+{
+    node.left = Tree::new();
+    node.key = key;
+    node.right = Tree::new();
+    Tree { root: Some(node) }
 }
 
 fn split(tree: Tree, key: i64) -> Parts
