@@ -6,14 +6,13 @@ ghost use Rattle.px_rows.specs.Means.{answer_to, after, old_of, loaded, place_of
 
 use crate::change::{key_of_op, table_of_statement, write};
 use crate::choice::{cells, cells_of_found, cells_with, counted, inserted, rows_of_width};
-use crate::copy::copied;
 use crate::key::key_at;
 use crate::load::LoadError;
 use crate::rows::Rows;
 use crate::tree::Node;
 use crate::undo::{Past, Undo};
 use px_value::{Answer, Schema, Statement, TableOp, Values};
-use sqlite_items::{Items, at};
+use sqlite_items::at;
 use std::alloc::{AllocError, Global};
 use std::marker::Model;
 
@@ -93,24 +92,13 @@ impl Tables {
     }
 
     /// The rows of a table in order of the key.
-    fn list(&self, alloc: Global, table: u16) -> Result<Vec<&Values>, AllocError>
+    pub fn rows(&self, alloc: Global, table: usize) -> Result<Vec<&Values>, AllocError>
         ensures { IfOk result (λ rows. map (λ r. r.now) rows.items ≡ rows_of self.now table) }
     {
-        match at(self.tables.as_slice(), usize::from(table)) {
+        match at(self.tables.as_slice(), table) {
             Some(rows) => rows.list(alloc),
             None => Ok(Vec::new(alloc)),
         }
-    }
-
-    /// A copy of the rows of a table in order of the key.
-    pub fn rows(&self, alloc: Global, table: u16) -> Result<Items<Values>, AllocError>
-        ensures { IfOk result (λ rows. rows ≡ rows_of self.now table) }
-    {
-        let mut rows = Items::new(alloc);
-        for row in &self.list(alloc, table)? {
-            rows.push(copied(alloc, row)?)?;
-        }
-        Ok(rows)
     }
 
     /// What the operation answers on these tables.
@@ -128,13 +116,13 @@ impl Tables {
                 columns,
                 column,
             } => {
-                let rows = self.list(alloc, *table)?;
+                let rows = self.rows(alloc, usize::from(*table))?;
                 let columns = columns.as_slice();
                 let cells = cells_with(alloc, columns, rows.as_slice(), *column, &op.params)?;
                 Ok(rows_of_width(columns, cells))
             }
             Statement::All { table, columns } => {
-                let rows = self.list(alloc, *table)?;
+                let rows = self.rows(alloc, usize::from(*table))?;
                 let columns = columns.as_slice();
                 let cells = cells(alloc, columns, rows.as_slice())?;
                 Ok(rows_of_width(columns, cells))

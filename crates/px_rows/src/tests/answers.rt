@@ -111,7 +111,7 @@ fn texts_are_compared(rt: HostRuntime) -> Result<(), Fail> {
 /// The first cells of the rows of the first table.
 pub fn keys(alloc: Global, tables: &Tables) -> Result<Vec<i64>, AllocError> {
     let mut keys = Vec::new(alloc);
-    for row in tables.rows(alloc, 0)?.as_slice() {
+    for row in &tables.rows(alloc, 0)? {
         keys.push(row.get(0).map_or(0, shown_value))?;
     }
     Ok(keys)
