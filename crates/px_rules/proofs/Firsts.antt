@@ -1,6 +1,7 @@
 -- The least breach that a walk has kept is the least of all.
 use Rattle.std.proofs.Common.{◌≡◌, ℕ, ◌+◌, Bool, true, false, List, [], ◌∷◌, Option, None, if◌then◌else◌, refl}
 use Rattle.std.specs.Prelude.{nat_lt}
+use Rattle.px_value.specs.declared.schema.Schema.{Schema}
 use Rattle.px_tree.specs.declared.Program.{Program}
 use Rattle.px_rules.specs.declared.breach.Breach.{Breach}
 use Rattle.px_rules.specs.declared.report.Report.{Report}
@@ -33,6 +34,6 @@ keeps_least (Fault token code ∷ ns) first news methods = keeps_least ns (lesse
 keeps_least (New token ∷ ns) first news methods = new_step (nat_lt news max_news) first news methods token ns (keeps_least ns)
 keeps_least (OneMethod token ∷ ns) first news methods = method_step (nat_lt methods max_methods) first news methods token ns (keeps_least ns)
 
-pub first_of_notes : (p : Program) → (after no_report (notes_of p)).first ≡ first_breach_of p
+pub first_of_notes : (s : Schema) (p : Program) → (after no_report (notes_of s p)).first ≡ first_breach_of s p
 unfolding first_breach_of
-first_of_notes p = keeps_least (notes_of p) None 0 0
+first_of_notes s p = keeps_least (notes_of s p) None 0 0

@@ -119,21 +119,21 @@ typed_binary c x t n l sign at e e' a a' h u0 u1 = typed_at c x (f.Binary sign a
 -- ---- the arguments of a call of `Db`
 
 literal_form : (t : ℕ) (y : ExprForm-F ExprForm Expr) (bytes : List ℕ) → literal_in (written_form t y) ≡ Some bytes → written_form t y ≡ Literal bytes t
-literal_form t (f.Number digits long) bytes h = absurd (none_is_not_some h)
-literal_form t (f.Str text) bytes h = ap (λ b. Literal b t) (some_is_one h)
-literal_form t f.True bytes h = absurd (none_is_not_some h)
-literal_form t f.False bytes h = absurd (none_is_not_some h)
-literal_form t f.Null bytes h = absurd (none_is_not_some h)
-literal_form t f.This bytes h = absurd (none_is_not_some h)
-literal_form t (f.Name name) bytes h = absurd (none_is_not_some h)
-literal_form t (f.Group x) bytes h = absurd (none_is_not_some h)
-literal_form t (f.Field of name) bytes h = absurd (none_is_not_some h)
-literal_form t (f.Index of at) bytes h = absurd (none_is_not_some h)
-literal_form t (f.Call of name args) bytes h = absurd (none_is_not_some h)
-literal_form t (f.NewObject name) bytes h = absurd (none_is_not_some h)
-literal_form t (f.NewArray base length) bytes h = absurd (none_is_not_some h)
-literal_form t (f.Prefix sign x) bytes h = absurd (none_is_not_some h)
-literal_form t (f.Binary sign at l r) bytes h = absurd (none_is_not_some h)
+literal_form t (f.Number digits long) bytes h = absurd (cc h)
+literal_form t (f.Str text) bytes h = cc h
+literal_form t f.True bytes h = absurd (cc h)
+literal_form t f.False bytes h = absurd (cc h)
+literal_form t f.Null bytes h = absurd (cc h)
+literal_form t f.This bytes h = absurd (cc h)
+literal_form t (f.Name name) bytes h = absurd (cc h)
+literal_form t (f.Group x) bytes h = absurd (cc h)
+literal_form t (f.Field of name) bytes h = absurd (cc h)
+literal_form t (f.Index of at) bytes h = absurd (cc h)
+literal_form t (f.Call of name args) bytes h = absurd (cc h)
+literal_form t (f.NewObject name) bytes h = absurd (cc h)
+literal_form t (f.NewArray base length) bytes h = absurd (cc h)
+literal_form t (f.Prefix sign x) bytes h = absurd (cc h)
+literal_form t (f.Binary sign at l r) bytes h = absurd (cc h)
 
 pub text_is_read : (c : Context) (s : Schema) (d : ℕ) (verb : Verb) (e : Expr) (js : List Judges) (l : Locals) (bytes : List ℕ) → literal_in (written e) ≡ Some bytes
     → database_notes s d verb (typed c e ∷ js) l ≡ arguments d [] 0 l js ++ text_notes d e.token (asked_operation s verb bytes) (types_of l js)
@@ -144,7 +144,7 @@ text_is_read c s d verb e js l bytes h =
 no_literal : (s : Schema) (d : ℕ) (verb : Verb) (w : Written) (j : Judges) (js : List Judges) (l : Locals) → literal_in w ≡ None
     → asked_notes s d verb w j js l ≡ arguments d [] 0 l (j ∷ js) ++ breach_if true d 12
 no_literal s d verb (Bare name) j js l h = refl
-no_literal s d verb (Literal bytes t) j js l h = absurd (none_is_not_some (sym h))
+no_literal s d verb (Literal bytes t) j js l h = absurd (cc h)
 no_literal s d verb Other j js l h = refl
 
 pub no_text : (c : Context) (s : Schema) (d : ℕ) (verb : Verb) (e : Expr) (js : List Judges) (l : Locals) → literal_in (written e) ≡ None

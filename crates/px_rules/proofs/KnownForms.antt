@@ -119,7 +119,7 @@ known_own_call c x s name args h = known_at c x (f.Call None name args) s (h ∙
 known_call_on : (c : Home) (x : ExprForm) (s : Scope) (e e' : Expr) (name : NameOf) (args : List Expr) → x ≡ Call (Some e) name args → e' ≡ e → known_form c x s ≡ call_on c (known c e' s) name.bytes s (map (known c) args)
 known_call_on c x s e e' name args h u = known_at c x (f.Call (Some e') name args) s (h ∙ (λ i. Call (Some (sym u i)) name args) ∙ sym (rolls-Call (Some e') name args))
 
-with_verb : Option Verb → Home → Known → List ℕ → Scope → List Knows → Known
+abbrev with_verb : Option Verb → Home → Known → List ℕ → Scope → List Knows → Known
 with_verb verb c of name s args = record (call_or verb c of name s args) { written = Other }
 
 pub known_call : (c : Home) (x : ExprForm) (s : Scope) (e e' : Expr) (name : NameOf) (args : List Expr) → x ≡ Call (Some e) name args → e' ≡ e → asked (written e') name.bytes ≡ None → known_form c x s ≡ call_known c (known c e' s) name.bytes (argument_nodes s (map (known c) args))
@@ -153,8 +153,8 @@ pub known_binary : (c : Home) (x : ExprForm) (s : Scope) (sign : Sign) (at : ℕ
 known_binary c x s sign at e e' a a' h u0 u1 = known_at c x (f.Binary sign at e' a') s (h ∙ (λ i. Binary sign at (sym u0 i) (sym u1 i)) ∙ sym (rolls-Binary sign at e' a'))
 
 -- nothing is in a leaf
-pub no_more : (nodes : List Node) (k leaf : Known) → k ≡ leaf → leaf.inner ≡ [] → nodes ≡ nodes ++ k.inner
-no_more nodes k leaf h e = sym (append-nil nodes) ∙ ap (λ (ns : List Node). nodes ++ ns) (sym e) ∙ ap (λ (k : Known). nodes ++ k.inner) (sym h)
+pub no_more : (nodes : List Node) (k same : Known) → k ≡ same → same.inner ≡ [] → nodes ≡ nodes ++ k.inner
+no_more nodes k same h e = sym (append-nil nodes) ∙ ap (λ (ns : List Node). nodes ++ ns) (sym e) ∙ ap (λ (k : Known). nodes ++ k.inner) (sym h)
 
 pub no_more_true : (c : Home) (x : ExprForm) (s : Scope) (nodes : List Node) → x ≡ True → nodes ≡ nodes ++ (known_form c x s).inner
 no_more_true c x s nodes h = no_more nodes _ _ (known_true c x s h) refl

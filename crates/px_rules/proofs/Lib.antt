@@ -1,4 +1,5 @@
 pub mod Notes
+pub mod Results
 pub mod Forms
 pub mod StatementForms
 pub mod Decimals

@@ -1,7 +1,7 @@
 //! The types of expressions, and the rules that they break.
 ghost use Rattle.std.specs.Prelude.{◌≡◌, map, IfOk, OnOk};
 ghost use Rattle.px_rules.specs.Breaches.{after};
-ghost use Rattle.px_rules.specs.Database as database;
+ghost use Rattle.px_rules.specs.Database as calls;
 ghost use Rattle.px_rules.specs.Scopes as scopes;
 ghost use Rattle.px_rules.specs.Expressions as expressions;
 ghost use Rattle.px_rules.specs.Expressions.{typed, typed_form, of_type};
@@ -191,7 +191,15 @@ impl Context {
                 Some(bytes) => {
                     let types = self.arguments(alloc, locals, report, database, &[], params)?;
                     let token = text.token;
-                    self.text(alloc, report, database, token, verb, bytes, types.as_slice())
+                    self.text(
+                        alloc,
+                        report,
+                        database,
+                        token,
+                        verb,
+                        bytes,
+                        types.as_slice(),
+                    )
                 }
                 None => {
                     self.arguments(alloc, locals, report, database, &[], args)?;
@@ -217,7 +225,7 @@ impl Context {
         text: &[u8],
         types: &[Ty],
     ) -> Result<(), AllocError>
-        ensures { OnOk result (report.new ≡ after report.old (database.text_notes database token (database.asked_operation self.now.classes.library.schema verb text.now) types.now)) }
+        ensures { OnOk result (report.new ≡ after report.old (calls.text_notes database token (calls.asked_operation self.now.classes.library.schema verb text.now) types.now)) }
     {
         match asked_operation(alloc, &self.classes.library.get().schema, verb, text)? {
             Some(operation) => {

@@ -10,7 +10,7 @@ use crate::home::Home;
 use crate::literal::literal_type;
 use crate::lookup::{database_fact, new_array_fact, typed_only, verb_fact};
 use crate::members::base_type;
-use crate::node::{Node, fact_only};
+use crate::node::{Node, add_fact, fact_only};
 use crate::operators::{group_of, group_type, prefix_type};
 use crate::scope::Scope;
 use px_facts::{Fact, Named, Operation, Ty};
@@ -86,7 +86,7 @@ impl Home {
             ExprForm::Call { of, name, args } => match of {
                 Some(of) => match asked(of.get(), name) {
                     Some(verb) => {
-                        nodes.push(fact_only(database_fact()))?;
+                        add_fact(nodes, database_fact())?;
                         self.arguments(alloc, scope, nodes, args.as_slice())?;
                         self.database_node(alloc, verb, args.as_slice())
                     }

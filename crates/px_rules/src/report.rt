@@ -13,7 +13,7 @@ const MAX_METHODS: u32 = 2000;
 #[derive(Clone, Copy)]
 pub struct Report {
     pub first: Option<Breach>,
-    /// The `new` expressions, up to their limit.
+    /// The `new` expressions and the calls of `Db`, up to their limit.
     pub news: u32,
     /// The methods, up to their limit.
     pub methods: u32,
@@ -46,7 +46,7 @@ impl Report {
         }
     }
 
-    /// Counts a `new` expression.
+    /// Counts a `new` expression or a call of `Db`.
     #[tactic(auto, unfolding(crate::specs::Breaches::noted))]
     pub fn created(&mut self, token: u32)
         ensures { self.new ≡ after self.old (New token ∷ []) }

@@ -1,3 +1,4 @@
+mod database;
 mod limits;
 
 use crate::{Breach, CheckError, check, first_breach};

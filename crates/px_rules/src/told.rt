@@ -9,7 +9,7 @@ ghost use Rattle.px_rules.specs.Told.{told};
 use crate::home::Home;
 use crate::lookup::{changed_fact, local_fact};
 use crate::members::type_of;
-use crate::node::{Node, fact_only};
+use crate::node::{Node, add_fact};
 use crate::scope::Scope;
 use px_facts::{Fact, Named, Ty};
 use px_tree::{Expr, Name, Stmt, StmtForm, TypeName};
@@ -38,10 +38,10 @@ impl Home {
     {
         match &s.form {
             StmtForm::Block(items) => {
-                nodes.push(fact_only(NO_FACT))?;
+                add_fact(nodes, NO_FACT)?;
                 self.block(alloc, scope, nodes, items.as_slice())
             }
-            StmtForm::Empty => nodes.push(fact_only(NO_FACT)),
+            StmtForm::Empty => add_fact(nodes, NO_FACT),
             StmtForm::Local { ty, name, value } => {
                 self.local(alloc, scope, nodes, ty, name, value)
             }
@@ -52,7 +52,9 @@ impl Home {
                 value,
             } => self.compound(alloc, scope, nodes, name, value),
             StmtForm::Up(name) | StmtForm::Down(name) => step(scope, nodes, name),
-            StmtForm::Call(value) | StmtForm::Print(value) => self.value(alloc, scope, nodes, value),
+            StmtForm::Call(value) | StmtForm::Print(value) => self.value(
+                alloc, scope, nodes, value,
+            ),
             StmtForm::If { test, yes, no } => {
                 self.value(alloc, scope, nodes, test)?;
                 self.statement(alloc, scope, nodes, yes.get())?;
@@ -69,7 +71,7 @@ impl Home {
                 body,
             } => {
                 let count = scope.locals.names.len();
-                nodes.push(fact_only(NO_FACT))?;
+                add_fact(nodes, NO_FACT)?;
                 self.statement(alloc, scope, nodes, first.get())?;
                 self.expression(alloc, scope, nodes, test)?;
                 self.statement(alloc, scope, nodes, last.get())?;
@@ -135,7 +137,7 @@ impl Home {
         ensures nodes { OnOk result (nodes.new ≡ nodes.old ++ (specs.local_told self.now ty.now name.now value.now scope.old).nodes) }
     {
         let ty = type_of(&self.classes.numbers, ty);
-        nodes.push(fact_only(local_fact(scope.next(ty)?)))?;
+        add_fact(nodes, local_fact(scope.next(ty)?))?;
         self.expression(alloc, scope, nodes, value)?;
         scope.declare(alloc, name.bytes.as_slice(), ty)
     }
@@ -183,7 +185,7 @@ impl Home {
     ) -> Result<(), AllocError>
         ensures { OnOk result (nodes.new ≡ nodes.old ++ (specs.value_told self.now value.now scope.now).nodes) }
     {
-        nodes.push(fact_only(NO_FACT))?;
+        add_fact(nodes, NO_FACT)?;
         self.expression(alloc, scope, nodes, value)?;
         Ok(())
     }
@@ -199,7 +201,7 @@ impl Home {
     {
         match value {
             Some(value) => self.value(alloc, scope, nodes, value),
-            None => nodes.push(fact_only(NO_FACT)),
+            None => add_fact(nodes, NO_FACT),
         }
     }
 }
@@ -208,5 +210,5 @@ impl Home {
 fn step(scope: &Scope, nodes: &mut Items<Node>, name: &Name) -> Result<(), AllocError>
     ensures { OnOk result (nodes.new ≡ nodes.old ++ (specs.change_told name.now [] scope.now).nodes) }
 {
-    nodes.push(fact_only(changed_fact(scope, name.bytes.as_slice())))
+    add_fact(nodes, changed_fact(scope, name.bytes.as_slice()))
 }
