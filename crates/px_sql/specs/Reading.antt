@@ -1,5 +1,5 @@
 -- How a text is read: its pieces, and the one statement that they may spell.
-use Rattle.std.specs.Prelude.{◌≡◌, ℕ, ◌+◌, ◌*◌, ◌==◌, Bool, true, false, not, ◌&&◌, List, [], ◌∷◌, length, map, drop, slice_get, Option, Some, None, if◌then◌else◌}
+use Rattle.std.specs.Prelude.{ℕ, ◌+◌, ◌*◌, ◌==◌, Bool, true, false, not, ◌&&◌, List, [], ◌∷◌, length, map, drop, slice_get, Option, Some, None, if◌then◌else◌}
 use Rattle.std.specs.Str.{bytes_eq}
 use Rattle.px_value.specs.declared.schema.Schema.{Schema}
 use Rattle.px_value.specs.declared.schema.Table.{Table}
@@ -8,8 +8,9 @@ use Rattle.px_value.specs.declared.statement.Statement.{Statement}
 use Rattle.px_value.specs.declared.statement.Statement.TheVariants as s
 use Rattle.px_sql.specs.declared.spelling.Keyword.TheVariants.{Select, Update, Insert}
 use Rattle.px_sql.specs.declared.spelling.Sign.TheVariants.{Comma}
-use Rattle.px_sql.specs.Words.{columns_of}
-use Rattle.px_sql.specs.Spelling.{is_space, is_part, is_keyword, is_sign}
+use Rattle.px_sql.specs.Tables.{IsSchema}
+use Rattle.px_sql.specs.Words.{columns_of, is_over, words_of}
+use Rattle.px_sql.specs.Spelling.{is_space, is_part, is_keyword, is_sign, fit, IsMeaning}
 
 -- ---- pieces
 
@@ -51,11 +52,11 @@ piece_at pieces index = piece_of (slice_get pieces index)
 -- the places of names; that behind the last where there is no such name
 abbrev pub table_place : List ℕ → List Table → ℕ
 table_place name [] = 0
-table_place name (t ∷ ts) = if bytes_eq t.name name then 0 else table_place name ts + 1
+table_place name (t ∷ ts) = if bytes_eq name t.name then 0 else table_place name ts + 1
 
 abbrev pub column_place : List ℕ → List Column → ℕ
 column_place name [] = 0
-column_place name (c ∷ cs) = if bytes_eq c.name name then 0 else column_place name cs + 1
+column_place name (c ∷ cs) = if bytes_eq name c.name then 0 else column_place name cs + 1
 
 -- each piece behind a comma, and the first one where it is due
 abbrev pub due_pieces : Bool → List (List ℕ) → List (List ℕ)
@@ -86,3 +87,18 @@ likely schema pieces =
     else if is_keyword Update (piece_at pieces 0) then update_of schema (table_place (piece_at pieces 1) schema.tables) (due_pieces true (drop 3 pieces))
     else if is_keyword Insert (piece_at pieces 0) then s.Insert (table_place (piece_at pieces 2) schema.tables)
     else s.Delete (table_place (piece_at pieces 2) schema.tables)
+
+abbrev pub statement_if : Bool → Statement → Option Statement
+statement_if true statement = Some statement
+statement_if false statement = None
+
+abbrev pub if_spelled : Schema → List (List ℕ) → Statement → Option Statement
+if_spelled schema pieces statement = statement_if (is_over schema statement && fit (words_of schema statement) pieces) statement
+
+-- the statement that a text means
+unfoldable pub statement_of : Schema → List ℕ → Option Statement
+statement_of schema text = if is_trimmed text then if_spelled schema (pieces_of text) (likely schema (pieces_of text)) else None
+
+-- what is read is what is meant
+abbrev pub TextsAreRead : Type 0
+TextsAreRead = (schema : Schema) (text : List ℕ) → IsSchema schema → IsMeaning schema text (statement_of schema text)

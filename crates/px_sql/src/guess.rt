@@ -33,6 +33,7 @@ pub(crate) fn likely(
     }
 }
 
+#[tactic(auto, using(crate::proofs::Places::narrow))]
 fn likely_select(alloc: Global, schema: &Schema, pieces: &[Text]) -> Result<Statement, AllocError>
     requires { IsSchema schema.now }
     ensures { IfOk result (λ statement. statement ≡ r.likely_select schema.now (r.due_pieces true (drop 1 pieces.now)) (drop (2 * length (r.due_pieces true (drop 1 pieces.now))) pieces.now)) }
@@ -67,6 +68,7 @@ fn select_of(columns: &[Column], table: u16, places: Items<u8>, rest: &[Text]) -
     }
 }
 
+#[tactic(auto, using(crate::proofs::Places::narrow))]
 fn likely_update(alloc: Global, schema: &Schema, pieces: &[Text]) -> Result<Statement, AllocError>
     requires { IsSchema schema.now }
     ensures { IfOk result (λ statement. statement ≡ r.update_of schema.now (r.table_place (r.piece_at pieces.now 1) schema.now.tables) (r.due_pieces true (drop 3 pieces.now))) }

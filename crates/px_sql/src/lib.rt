@@ -14,7 +14,9 @@ mod tests;
 mod types;
 mod words;
 
-pub use laws::{a_text_means_one_statement, schemas_keep_the_rule, statements_are_spelled};
+pub use laws::{
+    a_text_means_one_statement, schemas_keep_the_rule, statements_are_spelled, texts_are_read,
+};
 pub use read::read_statement;
 pub use schema::{SchemaError, read_schema};
 pub use types::{is_select, parameters};

@@ -45,7 +45,7 @@ pub(crate) fn table_place(name: &[u8], tables: &[Table]) -> u16
 {
     let mut place = 0;
     for table in tables {
-        if table.name.as_slice() == name {
+        if name == table.name.as_slice() {
             return place;
         }
         place += 1;
@@ -60,7 +60,7 @@ pub(crate) fn column_place(name: &[u8], columns: &[Column]) -> u8
 {
     let mut place = 0;
     for column in columns {
-        if column.name.as_slice() == name {
+        if name == column.name.as_slice() {
             return place;
         }
         place += 1;

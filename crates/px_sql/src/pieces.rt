@@ -56,6 +56,7 @@ pub(crate) fn pieces_of(alloc: Global, text: &[u8]) -> Result<Items<Text>, Alloc
 }
 
 // The length of the piece that the text begins with.
+#[tactic(auto, using(crate::proofs::Runs::run_cut, crate::proofs::Runs::alone))]
 fn piece_len(text: &[u8]) -> usize
     requires some { 0 < length text.now }
     requires front { begins_with_space text.now ≡ false }

@@ -4,6 +4,7 @@ ghost use Rattle.std.specs.Prelude.{◌≡◌, IfOk};
 ghost use Rattle.px_sql.specs.Tables.{IsSchema};
 ghost use Rattle.px_sql.specs.Words as w;
 ghost use Rattle.px_sql.specs.Spelling.{IsMeaning, fit};
+ghost use Rattle.px_sql.specs.Reading.{statement_of};
 
 use crate::guess::likely;
 use crate::over::is_over;
@@ -20,18 +21,32 @@ pub fn read_statement(
     text: &[u8],
 ) -> Result<Option<Statement>, AllocError>
     requires { IsSchema schema.now }
-    ensures { IfOk result (λ told. IsMeaning schema.now text.now told) }
+    ensures means { IfOk result (λ told. IsMeaning schema.now text.now told) }
+    ensures read { IfOk result (λ told. told ≡ statement_of schema.now text.now) }
+{
+    spelled_statement(alloc, schema, text)
+}
+
+fn spelled_statement(
+    alloc: Global,
+    schema: &Schema,
+    text: &[u8],
+) -> Result<Option<Statement>, AllocError>
+    requires { IsSchema schema.now }
+    ensures { IfOk result (λ told. told ≡ statement_of schema.now text.now) }
 {
     if !is_trimmed(text) {
         return Ok(None);
     }
     let pieces = pieces_of(alloc, text)?;
     let statement = likely(alloc, schema, pieces.as_slice())?;
-    if is_over(schema, &statement) && spells(alloc, schema, &statement, pieces.as_slice())? {
-        Ok(Some(statement))
-    } else {
-        Ok(None)
+    if !is_over(schema, &statement) {
+        return Ok(None);
     }
+    if !spells(alloc, schema, &statement, pieces.as_slice())? {
+        return Ok(None);
+    }
+    Ok(Some(statement))
 }
 
 fn spells(

@@ -2,7 +2,7 @@
 ghost use Rattle.std.specs.Prelude.{◌≡◌, ◌≤◌, ◌<◌, ◌+◌, ◌++◌, ◌∷◌, [], List, length, take, drop, map, IfOk, OnOk};
 ghost use Rattle.std.specs.List.{list_any};
 ghost use Rattle.std.specs.Str.{bytes_eq};
-ghost use Rattle.px_sql.specs.Tables.{column_of, table_of, type_of, has_table, has_column, differ, is_long_first, is_table, keeps_rule, breach_from, schema_of, IsRead};
+ghost use Rattle.px_sql.specs.Tables.{column_of, table_of, type_of, has_table, has_column, differ, is_long_first, is_table, keeps_rule, breach_from, schema_of, IsRead, IsSchema};
 ghost use Rattle.px_sql.specs.declared.schema.SchemaError.TheVariants.{NoMemory};
 
 use px_tree::{Column as ColumnDecl, TableDecl};
@@ -44,6 +44,13 @@ impl<T: Drop> From<AllocFailed<T>> for SchemaError {
 
 /// The tables in the order of their declarations.
 pub fn read_schema(alloc: Global, tables: &[TableDecl]) -> Result<Schema, SchemaError>
+    ensures read { IsRead result (schema_of tables.now) }
+    ensures kept { IfOk result (λ schema. IsSchema schema) }
+{
+    read_tables(alloc, tables)
+}
+
+fn read_tables(alloc: Global, tables: &[TableDecl]) -> Result<Schema, SchemaError>
     ensures { IsRead result (schema_of tables.now) }
 {
     let mut read = Items::new(alloc);

@@ -126,12 +126,15 @@ pub(crate) fn fit(words: &[Word], pieces: &[Text]) -> bool
 {
     let mut words_left = words;
     let mut pieces_left = pieces;
-    while let ([word, more_words @ ..], [piece, more_pieces @ ..]) = (words_left, pieces_left) {
+    while let [word, more_words @ ..] = words_left {
+        let [piece, more_pieces @ ..] = pieces_left else {
+            return false;
+        };
         if !fits(word, piece.as_slice()) {
             return false;
         }
         words_left = more_words;
         pieces_left = more_pieces;
     }
-    words_left.is_empty() && pieces_left.is_empty()
+    pieces_left.is_empty()
 }

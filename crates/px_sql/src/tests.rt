@@ -1,3 +1,6 @@
+ghost use Rattle.std.specs.Prelude.{IfOk};
+ghost use Rattle.px_sql.specs.Tables.{IsSchema};
+
 use crate::{SchemaError, is_select, parameters, read_schema, read_statement};
 use px_tree::{Column, Name, TableDecl};
 use px_value::{ColumnType, Schema, Statement};
@@ -18,9 +21,9 @@ fn column(alloc: Global, column: &str) -> Result<Column, AllocError> {
     Ok(Column { name, text })
 }
 
-fn table(alloc: Global, table: &str, columns: &[&str]) -> Result<TableDecl, AllocError> {
+fn table(alloc: Global, table: &str, columns: &str) -> Result<TableDecl, AllocError> {
     let mut declared = Items::new(alloc);
-    for name in columns {
+    for name in columns.split(' ') {
         declared.push(column(alloc, name)?)?;
     }
     let name = name(alloc, table)?;
@@ -28,11 +31,13 @@ fn table(alloc: Global, table: &str, columns: &[&str]) -> Result<TableDecl, Allo
     Ok(TableDecl { name, columns })
 }
 
-fn schema(alloc: Global) -> Result<Schema, Fail> {
+fn schema(alloc: Global) -> Result<Schema, Fail>
+    ensures { IfOk result (λ schema. IsSchema schema) }
+{
     let mut tables = Vec::new(alloc);
-    tables.push(table(alloc, "t", &["id", "a", "B", "c_$1"])?)?;
-    tables.push(table(alloc, "from", &["order", "select", "by", "where"])?)?;
-    tables.push(table(alloc, "one", &["k"])?)?;
+    tables.push(table(alloc, "t", "id a B c_$1")?)?;
+    tables.push(table(alloc, "from", "order select by where")?)?;
+    tables.push(table(alloc, "one", "k")?)?;
     Ok(read_schema(alloc, tables.as_slice())?)
 }
 
@@ -247,28 +252,26 @@ fn parameters_have_types(rt: HostRuntime) -> Result<(), Fail> {
 #[test]
 fn tables_keep_a_rule(rt: HostRuntime) -> Result<(), Fail> {
     let alloc = rt.alloc();
-    let most = [
-        "a", "b", "c", "d", "e", "f", "g", "h", "i", "j", "k", "l", "m", "n", "o", "p",
-    ];
-    let more = [
-        "a", "b", "c", "d", "e", "f", "g", "h", "i", "j", "k", "l", "m", "n", "o", "p", "q",
-    ];
-    let cases: [(&str, &[&str], bool); 6] = [
-        ("second", &most, true),
-        ("second", &more, false),
-        ("first", &["id"], false),
-        ("second", &["id", "a", "id"], false),
-        ("second", &["Id", "a"], false),
-        ("FIRST", &["id", "ID"], true),
+    let cases: [(&str, &str, bool); 6] = [
+        ("second", "a b c d e f g h i j k l m n o p", true),
+        ("second", "a b c d e f g h i j k l m n o p q", false),
+        ("first", "id", false),
+        ("second", "id a id", false),
+        ("second", "Id a", false),
+        ("FIRST", "id ID", true),
     ];
     for (name, columns, kept) in cases {
         let mut tables = Vec::new(alloc);
-        tables.push(table(alloc, "first", &["id"])?)?;
+        tables.push(table(alloc, "first", "id")?)?;
         tables.push(table(alloc, name, columns)?)?;
-        tables.push(table(alloc, "first", &["id"])?)?;
+        tables.push(table(alloc, "first", "id")?)?;
         let index = if kept { 2 } else { 1 };
         let found = read_schema(alloc, tables.as_slice()).err();
-        assert_eq!(rt; found, Some(SchemaError::BadTable { index }), "{name} {columns:?}");
+        assert_eq!(rt;
+            found,
+            Some(SchemaError::BadTable { index }),
+            "{name} {columns:?}"
+        );
     }
     Ok(())
 }
@@ -279,10 +282,10 @@ fn tables_are_bounded(rt: HostRuntime) -> Result<(), Fail> {
     let mut tables = Vec::new(alloc);
     for number in 0..100 {
         let name = format!(in alloc; "t{number}")?;
-        tables.push(table(alloc, name.as_str(), &["id"])?)?;
+        tables.push(table(alloc, name.as_str(), "id")?)?;
     }
     assert_eq!(rt; read_schema(alloc, tables.as_slice())?.tables.len(), 100);
-    tables.push(table(alloc, "last", &["id"])?)?;
+    tables.push(table(alloc, "last", "id")?)?;
     let found = read_schema(alloc, tables.as_slice()).err();
     assert_eq!(rt; found, Some(SchemaError::BadTable { index: 100 }));
     Ok(())

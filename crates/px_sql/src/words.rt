@@ -206,12 +206,13 @@ fn push_assigned(
 fn push_marks(words: &mut Items<Word>, columns: &[Column]) -> Result<(), AllocError>
     ensures { OnOk result (words.new ≡ words.old ++ w.marks columns.now) }
 {
-    if let [_, rest @ ..] = columns {
+    let mut rest = columns;
+    while let [_, more @ ..] = rest {
         words.push(Word::Sign(Sign::Mark))?;
-        for _ in rest {
+        if !more.is_empty() {
             words.push(Word::Sign(Sign::Comma))?;
-            words.push(Word::Sign(Sign::Mark))?;
         }
+        rest = more;
     }
     Ok(())
 }

@@ -1,0 +1,9 @@
+pub mod Truths
+pub mod Runs
+pub mod Written
+pub mod Places
+pub mod Dues
+pub mod Guessed
+pub mod Meanings
+pub mod Kept
+pub mod Spelled
