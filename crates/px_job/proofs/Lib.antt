@@ -4,3 +4,7 @@ pub mod WordsCut
 pub mod PlacesMore
 pub mod SpelledWords
 pub mod FiledLines
+pub mod KeysMore
+pub mod FittingValues
+pub mod FittingLines
+pub mod FittingJobs

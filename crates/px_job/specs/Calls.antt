@@ -1,5 +1,5 @@
 -- What a line makes that begins with `call`.
-use Rattle.std.specs.Prelude.{ℕ, ◌==◌, nat_le, not, ◌&&◌, List, [], ◌∷◌, length, slice_get, Option, Some, None, Result, Ok, Err, if◌then◌else◌}
+use Rattle.std.specs.Prelude.{ℕ, ◌==◌, nat_le, not, ◌&&◌, List, ◌∷◌, length, slice_get, Option, Some, None, Result, Ok, Err, if◌then◌else◌}
 use Rattle.std.specs.List.{list_all}
 use Rattle.px_value.specs.declared.value.Value.{Value}
 use Rattle.px_facts.specs.declared.checked.Entry.{Entry}

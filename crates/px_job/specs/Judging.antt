@@ -64,7 +64,7 @@ judged_form entries tables sessions draft (Some (verbs.Set setting)) words = wit
 judged_form entries tables sessions draft (Some verbs.Row) words = with_row draft (judged_row tables draft.rows words)
 judged_form entries tables sessions draft (Some verbs.Call) words = with_call draft (judged_call entries sessions (length draft.calls) words)
 judged_form entries tables sessions draft (Some verbs.Load) words = with_loads draft (judged_load sessions draft.loads words)
-judged_form entries tables sessions draft (Some verbs.Order) words = with_order draft (judged_order sessions draft.order words)
+judged_form entries tables sessions draft (Some verbs.Order) words = with_order draft (judged_order sessions (is_some draft.order) words)
 
 -- the words of a line: none, or a comment, make nothing
 abbrev pub judged_words : List Entry → List Table → ℕ → Draft → List (List ℕ) → Result Draft JobCode

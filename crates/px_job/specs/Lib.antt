@@ -17,3 +17,4 @@ pub mod Judging
 pub mod Jobs
 pub mod Filing
 pub mod Spelling
+pub mod Fitting

@@ -1,5 +1,5 @@
 -- What lines make that begin with `load` or `order`.
-use Rattle.std.specs.Prelude.{ℕ, ◌+◌, ◌-◌, nat_lt, not, ◌&&◌, List, [], ◌∷◌, ◌++◌, length, slice_get, slice_set, Option, Some, None, Result, Ok, Err, if◌then◌else◌}
+use Rattle.std.specs.Prelude.{ℕ, ◌+◌, ◌-◌, nat_lt, Bool, not, ◌&&◌, List, ◌∷◌, ◌++◌, length, slice_get, slice_set, Option, Some, None, Result, Ok, Err, if◌then◌else◌}
 use Rattle.px_job.specs.Numbers.{number, within, are_digits, numbers_within}
 use Rattle.px_job.specs.Arguments.{is_digits}
 use Rattle.px_job.specs.declared.job.JobCode.{JobCode}
@@ -38,10 +38,9 @@ abbrev pub order_of : Option (List ℕ) → Result (List ℕ) JobCode
 order_of None = Err J5
 order_of (Some order) = if nat_lt max_order (length order) then Err J20 else Ok order
 
-abbrev pub first_order : ℕ → Option (List ℕ) → List (List ℕ) → Result (List ℕ) JobCode
-first_order sessions (Some order) words = Err J3
-first_order sessions None words = order_of (numbers_within 1 sessions words)
-
--- the words behind `order`, behind another order or none: sessions
-abbrev pub judged_order : ℕ → Option (List ℕ) → List (List ℕ) → Result (List ℕ) JobCode
-judged_order sessions before words = if are_digits words then first_order sessions before words else Err J1
+-- the words behind `order`, behind another line of the form or not: sessions
+abbrev pub judged_order : ℕ → Bool → List (List ℕ) → Result (List ℕ) JobCode
+judged_order sessions repeated words =
+    if not (are_digits words) then Err J1 else
+    if repeated then Err J3 else
+    order_of (numbers_within 1 sessions words)

@@ -1,5 +1,5 @@
 -- Words of digits, and the numbers that they write.
-use Rattle.std.specs.Prelude.{ℕ, ◌-◌, ◌^◌, nat_lt, nat_le, Bool, false, ◌&&◌, List, [], ◌∷◌, unwrap_or, Option, Some, None, if◌then◌else◌}
+use Rattle.std.specs.Prelude.{ℕ, ◌-◌, ◌^◌, nat_le, Bool, false, ◌&&◌, List, [], ◌∷◌, unwrap_or, Option, Some, None, if◌then◌else◌}
 use Rattle.std.specs.List.{list_all}
 use Rattle.px_outside.specs.Numbers.{u64_of}
 use Rattle.px_job.specs.Arguments.{is_digits}

@@ -94,7 +94,7 @@ fn judge_form(
         }
         Some(Verb::Load) => judge_load(alloc, known.sessions, &mut draft.loads, rest),
         Some(Verb::Order) => {
-            let order = judge_order(alloc, known.sessions, draft.order.as_ref(), rest)?;
+            let order = judge_order(alloc, known.sessions, draft.order.is_some(), rest)?;
             draft.order = Some(order);
             Ok(())
         }

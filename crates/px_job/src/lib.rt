@@ -26,6 +26,6 @@ mod verbs;
 mod words;
 
 pub use job::{Call, Job, JobCode, JobError, JobFault, Row};
-pub use laws::{lines_are_filed, words_are_spelled};
+pub use laws::{jobs_fit, lines_are_filed, words_are_spelled};
 pub use read::read_job;
 pub use settings::Settings;

@@ -1,9 +1,9 @@
 //! Lines that begin with `load` or `order`.
 
-ghost use Rattle.std.specs.Prelude.{◌≡◌, ◌≤◌, ◌<◌, ◌+◌, ◌-◌, ◌++◌, [], ◌∷◌, length, slice_get, slice_set, OnOk, IfOk, List, ℕ, Some, replicate};
-ghost use Rattle.std.specs.Option.{option_copied, option_map};
+ghost use Rattle.std.specs.Prelude.{◌≡◌, ◌≤◌, ◌<◌, ◌+◌, ◌-◌, ◌++◌, [], ◌∷◌, length, slice_get, slice_set, OnOk, IfOk, List, ℕ, Some, IfSome, not, nat_lt, replicate};
+ghost use Rattle.std.specs.Option.{option_map};
 ghost use Rattle.px_job.specs.Words.{words_of};
-ghost use Rattle.px_job.specs.Loads.{loads_with, judged_load, judged_order};
+ghost use Rattle.px_job.specs.Loads.{max_readings, loads_with, judged_load, judged_order};
 ghost use Rattle.px_job.specs.Judging.{Judges, Makes};
 
 use crate::arguments::is_digits;
@@ -58,7 +58,8 @@ impl Loads {
 
     // How many readings a session has, by its place.
     fn count(&self, place: usize) -> Option<usize>
-        ensures { result ≡ option_map length (slice_get self.now place) }
+        ensures value { result ≡ option_map length (slice_get self.now place) }
+        ensures within { IfSome result (λ _. place < length self.now) }
     {
         match self.lists.get(place) {
             Some(list) => Some(list.len()),
@@ -104,26 +105,33 @@ fn add_readings(loads: &mut Loads, place: usize, readings: Items<u16>) -> Result
     let Some(count) = loads.count(place) else {
         return Err(Refusal::Breaks(JobCode::J5));
     };
-    if readings.len() > MAX_READINGS || count + readings.len() > MAX_READINGS {
+    if !has_room(count, readings.len()) {
         return Err(Refusal::Breaks(JobCode::J20));
     }
     loads.append(place, readings)?;
     Ok(())
 }
 
-/// The order of what stands behind `order`, behind another line of the form or none.
+// Whether a session may have so many readings and so many more.
+fn has_room(count: usize, more: usize) -> bool
+    ensures { result ≡ not (nat_lt max_readings (count + more)) }
+{
+    more <= MAX_READINGS && count <= MAX_READINGS - more
+}
+
+/// The order of what stands behind `order`, behind another line of the form or not.
 pub(crate) fn judge_order(
     alloc: Global,
     sessions: u16,
-    before: Option<&Items<u16>>,
+    repeated: bool,
     line: &[u8],
 ) -> Result<Items<u16>, Refusal>
-    ensures { Judges result (judged_order sessions (option_copied before) (words_of line.now)) }
+    ensures { Judges result (judged_order sessions repeated (words_of line.now)) }
 {
     if !are_digits(line) {
         return Err(Refusal::Breaks(JobCode::J1));
     }
-    if before.is_some() {
+    if repeated {
         return Err(Refusal::Breaks(JobCode::J3));
     }
     let Some(order) = read_numbers(alloc, 1, sessions, line)? else {

@@ -81,7 +81,11 @@ fn find_table(tables: &[Table], name: &[u8]) -> Option<u16>
     ensures { result ≡ option_and_then short_place (table_of name.now tables.now) }
 {
     let place = table_place(tables, name)?;
-    if place < 1 << 16 { Some(place as u16) } else { None }
+    if place < 1 << 16 {
+        Some(place as u16)
+    } else {
+        None
+    }
 }
 
 // The place of the first table of a name.
@@ -89,5 +93,7 @@ fn find_table(tables: &[Table], name: &[u8]) -> Option<u16>
 fn table_place(tables: &[Table], name: &[u8]) -> Option<usize>
     ensures { result ≡ table_of name.now tables.now }
 {
-    tables.iter().position(|table| table.name.as_slice() == name)
+    tables
+        .iter()
+        .position(|table| table.name.as_slice() == name)
 }

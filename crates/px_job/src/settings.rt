@@ -103,13 +103,34 @@ impl Stood {
     {
         let number = Some(number);
         match setting {
-            Setting::Sessions => Stood { sessions: number, ..self },
-            Setting::Workers => Stood { workers: number, ..self },
-            Setting::Retries => Stood { retries: number, ..self },
-            Setting::Alpha => Stood { alpha: number, ..self },
-            Setting::Latency => Stood { latency: number, ..self },
-            Setting::PerByte => Stood { per_byte: number, ..self },
-            Setting::Profile => Stood { profile: number, ..self },
+            Setting::Sessions => Stood {
+                sessions: number,
+                ..self
+            },
+            Setting::Workers => Stood {
+                workers: number,
+                ..self
+            },
+            Setting::Retries => Stood {
+                retries: number,
+                ..self
+            },
+            Setting::Alpha => Stood {
+                alpha: number,
+                ..self
+            },
+            Setting::Latency => Stood {
+                latency: number,
+                ..self
+            },
+            Setting::PerByte => Stood {
+                per_byte: number,
+                ..self
+            },
+            Setting::Profile => Stood {
+                profile: number,
+                ..self
+            },
         }
     }
 

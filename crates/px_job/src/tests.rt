@@ -7,8 +7,6 @@ use px_facts::Entry;
 use px_value::{Column, ColumnType, Schema, Table, Text, Ty};
 use sqlite_items::Items;
 use std::alloc::{AllocError, Global};
-use std::process::Abort;
-use std::test::Fail;
 
 /// What a job is read for.
 #[derive(Drop)]
@@ -61,7 +59,7 @@ fn schema(alloc: Global) -> Result<Schema, AllocError> {
     Ok(Schema { tables })
 }
 
-fn program(alloc: Global) -> Result<Program, AllocError> {
+fn small_program(alloc: Global) -> Result<Program, AllocError> {
     Ok(Program {
         entries: entries(alloc)?,
         schema: schema(alloc)?,
@@ -78,29 +76,4 @@ fn read(alloc: Global, text: &[u8], program: &Program) -> Result<Job, JobError> 
 
 fn fault(line: u32, code: JobCode) -> Option<JobError> {
     Some(JobError::Fault(JobFault { line, code }))
-}
-
-// Each of the texts is refused at the line with the code.
-fn all_refused(
-    rt: &impl Abort,
-    alloc: Global,
-    line: u32,
-    code: JobCode,
-    texts: &[&[u8]],
-) -> Result<(), Fail> {
-    let program = program(alloc)?;
-    for text in texts {
-        let found = read(alloc, text, &program);
-        assert_eq!(rt; found.err(), fault(line, code), "{text:?}");
-    }
-    Ok(())
-}
-
-fn all_read(rt: &impl Abort, alloc: Global, texts: &[&[u8]]) -> Result<(), Fail> {
-    let program = program(alloc)?;
-    for text in texts {
-        let found = read(alloc, text, &program);
-        assert_eq!(rt; found.err(), None, "{text:?}");
-    }
-    Ok(())
 }

@@ -1,6 +1,6 @@
 //! What read jobs hold.
 
-use super::{program, read};
+use super::{read, small_program};
 use crate::Settings;
 use px_value::Value;
 use std::test::Fail;
@@ -8,7 +8,7 @@ use std::test::Fail;
 #[test]
 fn settings_hold_or_default(rt: HostRuntime) -> Result<(), Fail> {
     let alloc = rt.alloc();
-    let program = program(alloc)?;
+    let program = small_program(alloc)?;
     let job = read(alloc, b"", &program)?;
     let defaults = Settings {
         sessions: 1,
@@ -20,7 +20,8 @@ fn settings_hold_or_default(rt: HostRuntime) -> Result<(), Fail> {
         profile: 50,
     };
     assert!(rt; job.settings == defaults);
-    let text = b"sessions 16\nworkers 02\nretries 0\nalpha 4\n\nlatency 5\nperbyte 6\nprofile 7".as_slice();
+    let text =
+        b"sessions 16\nworkers 02\nretries 0\nalpha 4\n\nlatency 5\nperbyte 6\nprofile 7".as_slice();
     let job = read(alloc, text, &program)?;
     let wanted = Settings {
         sessions: 16,
@@ -39,7 +40,7 @@ fn settings_hold_or_default(rt: HostRuntime) -> Result<(), Fail> {
 #[test]
 fn rows_stand_in_the_order_of_the_file(rt: HostRuntime) -> Result<(), Fail> {
     let alloc = rt.alloc();
-    let program = program(alloc)?;
+    let program = small_program(alloc)?;
     let text = b"row p 9 \"a \\\"\\t\"\nrow k -08\nrow p 1 \"\"".as_slice();
     let job = read(alloc, text, &program)?;
     let rows = job.rows.as_slice();
@@ -57,7 +58,7 @@ fn rows_stand_in_the_order_of_the_file(rt: HostRuntime) -> Result<(), Fail> {
 #[test]
 fn a_call_has_its_entry_and_its_arguments(rt: HostRuntime) -> Result<(), Fail> {
     let alloc = rt.alloc();
-    let program = program(alloc)?;
+    let program = small_program(alloc)?;
     let text = b"call 2 none\n#\n call 1 $all -7 true \"a \\t\\\"\"\nsessions 2".as_slice();
     let job = read(alloc, text, &program)?;
     let calls = job.calls.as_slice();
@@ -79,7 +80,7 @@ fn a_call_has_its_entry_and_its_arguments(rt: HostRuntime) -> Result<(), Fail> {
 #[test]
 fn loads_of_one_session_are_one_list(rt: HostRuntime) -> Result<(), Fail> {
     let alloc = rt.alloc();
-    let program = program(alloc)?;
+    let program = small_program(alloc)?;
     let text = b"load 2 5 006\nload 1 1\nload 2 1000\norder 3 01 3\nsessions 3".as_slice();
     let job = read(alloc, text, &program)?;
     let loads = job.loads.as_slice();
