@@ -1,6 +1,7 @@
 pub mod Digits
 pub mod Rooms
 pub mod Undoes
+pub mod Sent
 pub mod Steps
 pub mod Runs
 pub mod Loops

@@ -7,6 +7,10 @@ use Rattle.px_value.specs.Heap.{written, with_cell, cell_of, cell_at}
 use Rattle.px_value.proofs.Cells.{written-written, written-none}
 use Rattle.px_interpreter.specs.declared.change.Change.{Change}
 use Rattle.px_interpreter.specs.Undo.{noted, restored, undone}
+use Rattle.px_value.specs.declared.statement.TableOp.{TableOp}
+use Rattle.px_rows.specs.Tables.{Tables, Old, with_row, undone as undone_tables}
+use Rattle.px_rows.specs.Means.{after, old_of}
+use Rattle.px_rows.proofs.Back.{op_back}
 
 undone-push : (cs : List Change) (c : Change) (heap : List Object) → undone (cs ++ c ∷ []) heap ≡ undone cs (written heap c.object c.index c.old)
 undone-push [] c heap = refl
@@ -58,3 +62,15 @@ pub restored-write : (start start' : ℕ) (c : Change) (changes changes' : List 
 restored-write start start' c changes changes' heap heap' v h s e n =
     (λ i. restored (s i) (n i) (e i)) ∙ ap (undone (noted start c changes)) (take-written start heap c.object c.index v)
     ∙ taken_back (nat_lt c.object start) start c changes heap v refl h
+
+-- ---- tables
+
+undone-append : (olds more : List Old) (T : Tables) → undone_tables (olds ++ more) T ≡ undone_tables olds (undone_tables more T)
+unfolding undone_tables
+undone-append [] more T = refl
+undone-append (o ∷ olds) more T = ap (λ (x : Tables). with_row x o.place o.row) (undone-append olds more T)
+
+-- what an operation writes is taken back
+pub undone-after : (o : TableOp) (T T' : Tables) (olds olds' : List Old) → T' ≡ after o T → olds' ≡ olds ++ old_of o T → undone_tables olds' T' ≡ undone_tables olds T
+undone-after o T T' olds olds' h e =
+    (λ i. undone_tables (e i) (h i)) ∙ undone-append olds (old_of o T) (after o T) ∙ ap (undone_tables olds) (op_back o T)

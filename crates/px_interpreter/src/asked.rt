@@ -16,6 +16,7 @@ pub struct Asked {
 
 impl Asked {
     /// Of a call that begins.
+    #[tactic(auto, unfolding(px_rows::specs::Tables::undone))]
     pub fn new(alloc: Global, tables: Tables) -> Asked
         ensures tables { result.tables ≡ tables }
         ensures undone { undone result.undo result.tables ≡ tables }

@@ -1,4 +1,4 @@
-use Rattle.std.proofs.Common.{ap, sym, ◌∙◌, List, ℕ, Bool, Option, option_map, map, if◌then◌else◌}
+use Rattle.std.proofs.Common.{ap, sym, ◌∙◌, List, ℕ, Bool, Option, if◌then◌else◌}
 use Rattle.px_value.specs.declared.value.Value.{Value}
 use Rattle.px_value.specs.declared.value.Value.TheVariants.{Text}
 use Rattle.px_value.specs.Outcome.{Gives, then_run, ◌>>=◌, pure}
@@ -6,12 +6,11 @@ use Rattle.px_value.specs.Operators.{Applied}
 use Rattle.px_semantics.specs.Run.{came_to}
 use Rattle.px_facts.specs.declared.types.Ty.{Ty}
 use Rattle.px_facts.specs.declared.checked.Named.{Named}
-use Rattle.px_semantics.specs.Expressions.{literal, member_value, called, widened, prefixed, combined, decides}
-use Rattle.px_semantics.specs.Facts.{prefix_of, named_at, type_at}
+use Rattle.px_semantics.specs.Expressions.{literal, member_value, widened, prefixed, combined, decides}
+use Rattle.px_semantics.specs.Facts.{prefix_of, type_at}
 use Rattle.px_value.specs.declared.op.Op.{Op}
-use Rattle.px_tree.specs.declared.Expr.{Expr}
 use Rattle.px_interpreter.specs.Parts.{operand_value}
-use Rattle.px_interpreter.specs.View.{Here, frame, around_of, says}
+use Rattle.px_interpreter.specs.View.{Here, frame, says}
 use Rattle.px_interpreter.proofs.Steps.{exits, gives_then, same_end, ends_came}
 use Rattle.px_interpreter.proofs.Runs.{type_says, run_number, run_text, run_true, run_false, run_null, run_this, run_name, run_group, run_field, run_index, run_call, run_new_object, run_new_array, run_prefix, run_binary}
 use Rattle.px_interpreter.proofs.expressions.+eval.Goals as goal

@@ -1,6 +1,6 @@
 use Rattle.std.proofs.Common.{◌≡◌, map, drop}
 use Rattle.px_semantics.specs.Program.{source_from}
-use Rattle.px_interpreter.specs.Plain.{source_in, stand_of}
+use Rattle.px_interpreter.specs.Plain.{source_in, stands}
 use Rattle.px_interpreter.specs.Serial.{told_call, serial_of}
 use Rattle.px_interpreter.proofs.Served.{joined, goes_on}
 use Rattle.px_interpreter.proofs.serial.serve.Given as goal
@@ -8,5 +8,5 @@ use Rattle.px_interpreter.proofs.serial.serve.Given as goal
 abbrev pub invariant-loop-call : goal.invariant-loop-call
 invariant-loop-call l = record {
   source : source_in l.plain ≡ source_from l.fn.checked;
-  calls : serial_of l.fn.checked l.fn.sessions (map told_call l.fn.calls) ≡ joined l.shown.items (goes_on (source_from l.fn.checked) (map told_call (drop l.call-index l.calls)) (stand_of l.plain.heaps.items));
+  calls : serial_of l.fn.checked l.fn.sessions l.fn.tables (map told_call l.fn.calls) ≡ joined l.shown.items (goes_on (source_from l.fn.checked) (map told_call (drop l.call-index l.calls)) (stands l.plain));
 }

@@ -1,7 +1,6 @@
-use Rattle.std.proofs.Common.{ap, sym, ◌∙◌, List, Some, arith}
+use Rattle.std.proofs.Common.{ap, sym, ◌∙◌, Some, arith}
 use Rattle.std.proofs.lemmas.Option.{slice_get_read}
-use Rattle.std.specs.Borrow.{Bor}
-use Rattle.px_tree.specs.declared.Method.{Method}
+use Rattle.px_semantics.specs.Asks.{by_tables}
 use Rattle.px_semantics.specs.Entry.{call_of}
 use Rattle.px_interpreter.specs.Plain.{source_with}
 use Rattle.px_interpreter.proofs.Serials.{set_set}
@@ -15,6 +14,7 @@ returns-clause-calls c =
       there = slice_get_read heaps _ c.args.place c.index_mut.result.now c.args.self.now.heaps.ok.0 (omega (arith, c.requires, c.args.self.now.heaps.ok.0)) c.index_mut.ensures.value
           ∙ ap Some (sym c.replace-heap.ensures.value);
       left = c.in_ok-called.called.heap;
-      called = ap (λ (methods : List (Bor Method)). call_of {W = Unit {0}} (source_with c.args.self.now.facts.now methods) c.replace-heap.result tt c.args.entry c.args.args.now) (sym c.as_slice.ensures.value) ∙ c.in_ok-called.ensures;
+      called = (λ i. call_of by_tables (source_with c.args.self.now.facts.now (sym c.as_slice.ensures.value i)) c.replace-heap.result (sym c.replace-tables.ensures.value i) c.args.entry c.args.args.now)
+          ∙ c.in_ok-called.ensures;
       written = set_set heaps c.args.place _ c.in_ok-called.called.heap;
     }
