@@ -6,7 +6,8 @@ use Rattle.px_value.specs.declared.schema.ColumnType.{ColumnType}
 use Rattle.px_value.specs.declared.schema.ColumnType.TheVariants as column
 use Rattle.px_value.specs.declared.schema.Schema.{Schema}
 use Rattle.px_value.specs.declared.statement.Statement.{Statement}
-use Rattle.px_sql.specs.Statements.{statement_of, is_select, parameters_of}
+use Rattle.px_sql.specs.Reading.{statement_of}
+use Rattle.px_sql.specs.Parameters.{is_select, parameters}
 use Rattle.px_tree.specs.declared.Expr.{Expr}
 use Rattle.px_tree.specs.declared.ExprForm.{ExprForm, ExprForm-F, out-ExprForm}
 use Rattle.px_tree.specs.declared.ExprForm.TheOpen.{ExprForm-F as e}
@@ -64,7 +65,7 @@ column_type column.Long = ty.Long
 column_type column.Text = ty.Text
 
 abbrev pub operation_of : Schema → Statement → Operation
-operation_of schema s = record { statement = s; params = map column_type (parameters_of schema s) }
+operation_of schema s = record { statement = s; params = map column_type (parameters schema s) }
 
 -- what a text asks for, where it is one of the forms that the verb takes
 abbrev pub asked_operation : Schema → Verb → List ℕ → Option Operation

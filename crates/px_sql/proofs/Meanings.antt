@@ -1,14 +1,15 @@
 -- What a text means.
-use Rattle.std.proofs.Common.{◌≡◌, ◌≢◌, ℕ, Bool, true, false, ◌&&◌, List, [], Option, Some, None, Result, Ok, Err, IfOk, refl, ap, sym, ◌∙◌, subst}
-use Rattle.std.specs.declared.alloc.AllocError.{AllocError}
+use Rattle.std.proofs.Common.{◌≡◌, ◌≢◌, ℕ, ◌≤◌, nat_le, Bool, true, false, ◌&&◌, List, [], ◌∷◌, length, Option, Some, None, refl, ap, sym, ◌∙◌, subst, arith}
 use Rattle.std.proofs.lemmas.Bool.{false≢true}
 use Rattle.px_value.specs.declared.schema.Schema.{Schema}
 use Rattle.px_value.specs.declared.statement.Statement.{Statement}
 use Rattle.px_value.specs.declared.statement.Statement.TheVariants as s
-use Rattle.px_sql.specs.Tables.{IsSchema}
+use Rattle.px_value.specs.declared.schema.Table.{Table}
+use Rattle.std.specs.List.{list_all}
+use Rattle.px_sql.specs.Tables.{IsSchema, is_small, is_table, is_long_first, differ, max_tables, max_columns}
 use Rattle.px_sql.specs.Words.{is_over, words_of}
 use Rattle.px_sql.specs.Spelling.{fit, Means, IsMeaning, ATextMeansOneStatement}
-use Rattle.px_sql.specs.Reading.{is_trimmed, pieces_of, likely, statement_if, if_spelled, statement_of, TextsAreRead}
+use Rattle.px_sql.specs.Reading.{is_trimmed, pieces_of, likely, statement_if, if_spelled, spelled_in, statement_of, TextsAreRead}
 use Rattle.px_sql.proofs.Written.{pieces_written, trimmed_written, written_pieces}
 use Rattle.px_sql.proofs.Guessed.{guessed}
 use Rattle.px_sql.proofs.Truths.{and_first, and_second, not_both}
@@ -42,16 +43,14 @@ none_untrimmed schema text h statement m = false≢true (sym h ∙ trimmed_writt
 
 -- ---- what the code finds
 
-pub untrimmed : (schema : Schema) (text : List ℕ) → is_trimmed text ≡ false → None ≡ statement_of schema text
-unfolding statement_of
+pub untrimmed : (schema : Schema) (text : List ℕ) → is_trimmed text ≡ false → None ≡ spelled_in schema text
 untrimmed schema text t = rw t refl
 
-trimmed : (schema : Schema) (text : List ℕ) → is_trimmed text ≡ true → if_spelled schema (pieces_of text) (likely schema (pieces_of text)) ≡ statement_of schema text
-unfolding statement_of
+trimmed : (schema : Schema) (text : List ℕ) → is_trimmed text ≡ true → if_spelled schema (pieces_of text) (likely schema (pieces_of text)) ≡ spelled_in schema text
 trimmed schema text t = rw t refl
 
 -- where the pieces, and the statement that they may spell, were found
-pub judged : (schema : Schema) (text : List ℕ) (pieces : List (List ℕ)) (read : Statement) → is_trimmed text ≡ true → pieces ≡ pieces_of text → read ≡ likely schema pieces → if_spelled schema pieces read ≡ statement_of schema text
+pub judged : (schema : Schema) (text : List ℕ) (pieces : List (List ℕ)) (read : Statement) → is_trimmed text ≡ true → pieces ≡ pieces_of text → read ≡ likely schema pieces → if_spelled schema pieces read ≡ spelled_in schema text
 judged schema text pieces read t p r =
     ap (if_spelled schema pieces) r ∙ ap (λ (ps : List (List ℕ)). if_spelled schema ps (likely schema ps)) p ∙ trimmed schema text t
 
@@ -76,15 +75,29 @@ meaning_by : (ok : Bool) (schema : Schema) (text : List ℕ) (read : Statement) 
 meaning_by true schema text read is t r h = meant schema read text t (and_first (is_over schema read) _ h) (and_second (is_over schema read) _ h)
 meaning_by false schema text read is t r h = none_by schema text read is r h
 
-text_is_read : (trim : Bool) (schema : Schema) (text : List ℕ) → is_trimmed text ≡ trim → IsSchema schema → IsMeaning schema text (statement_of schema text)
+text_is_read : (trim : Bool) (schema : Schema) (text : List ℕ) → is_trimmed text ≡ trim → IsSchema schema → IsMeaning schema text (spelled_in schema text)
 text_is_read true schema text t is =
     let read : Statement = likely schema (pieces_of text) in
     subst (IsMeaning schema text) (trimmed schema text t) (meaning_by (is_over schema read && fit (words_of schema read) (pieces_of text)) schema text read is t refl refl)
 text_is_read false schema text t is = subst (IsMeaning schema text) (untrimmed schema text t) (none_untrimmed schema text t)
 
-pub texts_are_read : TextsAreRead
-texts_are_read schema text is = text_is_read (is_trimmed text) schema text refl is
+-- tables that keep the rule are no more than it allows
+few_by : (n : ℕ) → n ≤ 100 → nat_le n max_tables ≡ true
+few_by n h = grind (arith, h)
 
-pub meaning_if_read : (result : Result (Option Statement) AllocError) (schema : Schema) (text : List ℕ) → IsSchema schema → IfOk result (λ told. told ≡ statement_of schema text) → IfOk result (λ told. IsMeaning schema text told)
-meaning_if_read (Ok told) schema text is h = subst (IsMeaning schema text) (sym h) (texts_are_read schema text is)
-meaning_if_read (Err e) schema text is h = tt
+columns_few : (tables : List Table) → list_all (λ t. is_table t.columns) tables ≡ true → list_all (λ t. nat_le (length t.columns) max_columns) tables ≡ true
+columns_few [] h = refl
+columns_few (t ∷ ts) h =
+    let one : is_table t.columns ≡ true = and_first (is_table t.columns) _ h in
+    let few : nat_le (length t.columns) max_columns ≡ true = and_first (nat_le (length t.columns) max_columns) (is_long_first t.columns) (and_first (nat_le (length t.columns) max_columns && is_long_first t.columns) (differ t.columns) one) in
+    rw few (columns_few ts (and_second (is_table t.columns) _ h))
+
+schema_small : (schema : Schema) → IsSchema schema → is_small schema ≡ true
+schema_small schema is = rw (few_by (length schema.tables) is.few) (columns_few schema.tables is.all)
+
+small_spelled : (schema : Schema) (text : List ℕ) → is_small schema ≡ true → spelled_in schema text ≡ statement_of schema text
+unfolding statement_of
+small_spelled schema text small = rw small refl
+
+pub texts_are_read : TextsAreRead
+texts_are_read schema text is = subst (IsMeaning schema text) (small_spelled schema text (schema_small schema is)) (text_is_read (is_trimmed text) schema text refl is)

@@ -6,7 +6,7 @@ use Rattle.std.proofs.lemmas.Cmp.{nat_list_eq_equiv}
 use Rattle.px_value.specs.declared.schema.Schema.{Schema}
 use Rattle.px_value.specs.declared.schema.Table.{Table}
 use Rattle.px_value.specs.declared.schema.Column.{Column}
-use Rattle.px_sql.specs.Tables.{has_table, has_column, differ, tables_differ, is_table, is_long_first, IsSchema}
+use Rattle.px_sql.specs.Tables.{has_table, has_column, differ, tables_differ, is_table, is_long_first, IsSchema, IsSmall, max_tables, max_columns}
 use Rattle.px_sql.specs.Words.{table_name, table_columns, name_of, columns_of, name_at}
 use Rattle.px_sql.specs.Reading.{table_place, column_place, places_of}
 use Rattle.px_sql.proofs.Truths.{and_first, and_second, or_first, or_second, not_true}
@@ -68,8 +68,19 @@ kept (t ∷ ts) (suc n) h = kept ts n (and_second (is_table t.columns) _ h)
 narrow_by : (n : ℕ) → nat_le n 16 ≡ true → n ≤ 16
 narrow_by n h = grind (arith, h)
 
-pub narrow : (schema : Schema) (table : ℕ) → IsSchema schema → length (columns_of schema table) ≤ 16
-narrow schema table is = narrow_by (length (columns_of schema table)) (kept schema.tables table is.all).0
+few_columns : (tables : List Table) (n : ℕ) → list_all (λ t. nat_le (length t.columns) max_columns) tables ≡ true → nat_le (length (table_columns (slice_get tables n))) 16 ≡ true
+few_columns [] n h = refl
+few_columns (t ∷ ts) zero h = and_first (nat_le (length t.columns) 16) _ h
+few_columns (t ∷ ts) (suc n) h = few_columns ts n (and_second (nat_le (length t.columns) 16) _ h)
+
+pub narrow : (schema : Schema) (table : ℕ) → IsSmall schema → length (columns_of schema table) ≤ 16
+narrow schema table small = narrow_by (length (columns_of schema table)) (few_columns schema.tables table (and_second (nat_le (length schema.tables) max_tables) _ small))
+
+few_tables : (n : ℕ) → nat_le n max_tables ≡ true → n ≤ 100
+few_tables n h = grind (arith, h)
+
+pub few : (schema : Schema) → IsSmall schema → length schema.tables ≤ 100
+few schema small = few_tables (length schema.tables) (and_first (nat_le (length schema.tables) max_tables) _ small)
 
 pub columns_differ : (schema : Schema) (table : ℕ) → IsSchema schema → differ (columns_of schema table) ≡ true
 columns_differ schema table is = (kept schema.tables table is.all).1

@@ -8,7 +8,7 @@ use Rattle.px_value.specs.declared.statement.Statement.{Statement}
 use Rattle.px_value.specs.declared.statement.Statement.TheVariants as s
 use Rattle.px_sql.specs.declared.spelling.Keyword.TheVariants.{Select, Update, Insert}
 use Rattle.px_sql.specs.declared.spelling.Sign.TheVariants.{Comma}
-use Rattle.px_sql.specs.Tables.{IsSchema}
+use Rattle.px_sql.specs.Tables.{IsSchema, is_small}
 use Rattle.px_sql.specs.Words.{columns_of, is_over, words_of}
 use Rattle.px_sql.specs.Spelling.{is_space, is_part, is_keyword, is_sign, fit, IsMeaning}
 
@@ -95,9 +95,12 @@ statement_if false statement = None
 abbrev pub if_spelled : Schema → List (List ℕ) → Statement → Option Statement
 if_spelled schema pieces statement = statement_if (is_over schema statement && fit (words_of schema statement) pieces) statement
 
--- the statement that a text means
+abbrev pub spelled_in : Schema → List ℕ → Option Statement
+spelled_in schema text = if is_trimmed text then if_spelled schema (pieces_of text) (likely schema (pieces_of text)) else None
+
+-- the statement that a text means; over more tables or columns than the rule allows it means none
 unfoldable pub statement_of : Schema → List ℕ → Option Statement
-statement_of schema text = if is_trimmed text then if_spelled schema (pieces_of text) (likely schema (pieces_of text)) else None
+statement_of schema text = if is_small schema then spelled_in schema text else None
 
 -- what is read is what is meant
 abbrev pub TextsAreRead : Type 0

@@ -93,6 +93,13 @@ pub record IsSchema (schema : Schema) : Type 0 where
   pub named : tables_differ schema.tables ≡ true
   pub all : list_all (λ t. is_table t.columns) schema.tables ≡ true
 
+-- no more tables and columns than the rule allows
+abbrev pub is_small : Schema → Bool
+is_small schema = nat_le (length schema.tables) max_tables && list_all (λ t. nat_le (length t.columns) max_columns) schema.tables
+
+abbrev pub IsSmall : Schema → Type 0
+IsSmall schema = is_small schema ≡ true
+
 -- what is read keeps the rule
 abbrev pub SchemasKeepTheRule : Type 0
 SchemasKeepTheRule = (declared : List TableDecl) (schema : Schema) → schema_of declared ≡ Ok schema → IsSchema schema

@@ -1,6 +1,6 @@
 //! The one statement that pieces may spell.
 ghost use Rattle.std.specs.Prelude.{◌≡◌, ◌≤◌, ◌<◌, ◌+◌, ◌*◌, ◌++◌, ◌∷◌, [], List, ℕ, length, take, drop, map, true, IfOk};
-ghost use Rattle.px_sql.specs.Tables.{IsSchema};
+ghost use Rattle.px_sql.specs.Tables.{IsSmall};
 ghost use Rattle.px_sql.specs.Words.{columns_of};
 ghost use Rattle.px_sql.specs.Reading as r;
 
@@ -11,12 +11,13 @@ use sqlite_items::{Items, at};
 use std::alloc::{AllocError, Global};
 
 /// If the pieces spell a statement, they spell this one.
+#[tactic(auto, using(crate::proofs::Places::few))]
 pub(crate) fn likely(
     alloc: Global,
     schema: &Schema,
     pieces: &[Text],
 ) -> Result<Statement, AllocError>
-    requires { IsSchema schema.now }
+    requires { IsSmall schema.now }
     ensures { IfOk result (λ statement. statement ≡ r.likely schema.now pieces.now) }
 {
     let first = piece_at(pieces, 0);
@@ -33,9 +34,9 @@ pub(crate) fn likely(
     }
 }
 
-#[tactic(auto, using(crate::proofs::Places::narrow))]
+#[tactic(auto, using(crate::proofs::Places::narrow, crate::proofs::Places::few))]
 fn likely_select(alloc: Global, schema: &Schema, pieces: &[Text]) -> Result<Statement, AllocError>
-    requires { IsSchema schema.now }
+    requires { IsSmall schema.now }
     ensures { IfOk result (λ statement. statement ≡ r.likely_select schema.now (r.due_pieces true (drop 1 pieces.now)) (drop (2 * length (r.due_pieces true (drop 1 pieces.now))) pieces.now)) }
 {
     let names = due_pieces(alloc, from(pieces, 1))?;
@@ -68,9 +69,9 @@ fn select_of(columns: &[Column], table: u16, places: Items<u8>, rest: &[Text]) -
     }
 }
 
-#[tactic(auto, using(crate::proofs::Places::narrow))]
+#[tactic(auto, using(crate::proofs::Places::narrow, crate::proofs::Places::few))]
 fn likely_update(alloc: Global, schema: &Schema, pieces: &[Text]) -> Result<Statement, AllocError>
-    requires { IsSchema schema.now }
+    requires { IsSmall schema.now }
     ensures { IfOk result (λ statement. statement ≡ r.update_of schema.now (r.table_place (r.piece_at pieces.now 1) schema.now.tables) (r.due_pieces true (drop 3 pieces.now))) }
 {
     let names = due_pieces(alloc, from(pieces, 3))?;

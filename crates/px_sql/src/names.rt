@@ -1,7 +1,6 @@
 //! Tables and columns by their places and names.
 ghost use Rattle.std.specs.Prelude.{◌≡◌, ◌≤◌, ◌<◌, ◌+◌, List, length, drop, slice_get};
 ghost use Rattle.std.specs.Str.{bytes_eq};
-ghost use Rattle.px_sql.specs.Tables.{IsSchema};
 ghost use Rattle.px_sql.specs.Words.{name_of, columns_of, name_at};
 ghost use Rattle.px_sql.specs.Reading.{table_place, column_place};
 

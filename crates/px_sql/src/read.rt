@@ -1,29 +1,32 @@
-// NOTE FROM THE LEAD: read /work/sql/NOTE-FROM-LEAD.md (a function `statement_of`, no requires), then delete this line.
 //! The statement that a text means.
 ghost use Rattle.std.specs.Prelude.{◌≡◌, IfOk};
-ghost use Rattle.px_sql.specs.Tables.{IsSchema};
+ghost use Rattle.px_sql.specs.Tables.{IsSmall};
 ghost use Rattle.px_sql.specs.Words as w;
-ghost use Rattle.px_sql.specs.Spelling.{IsMeaning, fit};
-ghost use Rattle.px_sql.specs.Reading.{statement_of};
+ghost use Rattle.px_sql.specs.Spelling.{fit};
+ghost use Rattle.px_sql.specs.Reading.{statement_of, spelled_in};
 
 use crate::guess::likely;
 use crate::over::is_over;
 use crate::pieces::{is_trimmed, pieces_of};
+use crate::schema::is_small;
 use crate::spelling::fit;
 use crate::words::words_of;
 use px_value::{Schema, Statement, Text};
 use std::alloc::{AllocError, Global};
 
-/// The statement that the text means, if it has one of the six forms over the tables.
+/// The statement that the text means, if it has one of the six forms over the tables. Over more than
+/// 100 tables, or one of more than 16 columns, it means none.
+#[tactic(auto, unfolding(crate::specs::Reading::statement_of))]
 pub fn read_statement(
     alloc: Global,
     schema: &Schema,
     text: &[u8],
 ) -> Result<Option<Statement>, AllocError>
-    requires { IsSchema schema.now }
-    ensures means { IfOk result (λ told. IsMeaning schema.now text.now told) }
-    ensures read { IfOk result (λ told. told ≡ statement_of schema.now text.now) }
+    ensures { IfOk result (λ told. told ≡ statement_of schema.now text.now) }
 {
+    if !is_small(schema) {
+        return Ok(None);
+    }
     spelled_statement(alloc, schema, text)
 }
 
@@ -32,8 +35,8 @@ fn spelled_statement(
     schema: &Schema,
     text: &[u8],
 ) -> Result<Option<Statement>, AllocError>
-    requires { IsSchema schema.now }
-    ensures { IfOk result (λ told. told ≡ statement_of schema.now text.now) }
+    requires { IsSmall schema.now }
+    ensures { IfOk result (λ told. told ≡ spelled_in schema.now text.now) }
 {
     if !is_trimmed(text) {
         return Ok(None);
