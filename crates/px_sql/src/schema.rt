@@ -157,6 +157,7 @@ pub(crate) fn is_small(schema: &Schema) -> bool
     schema.tables.len() <= MAX_TABLES
         && schema
             .tables
+            .as_slice()
             .iter()
             .all(|table| table.columns.len() <= MAX_COLUMNS)
 }
