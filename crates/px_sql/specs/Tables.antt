@@ -94,8 +94,11 @@ pub record IsSchema (schema : Schema) : Type 0 where
   pub all : list_all (λ t. is_table t.columns) schema.tables ≡ true
 
 -- no more tables and columns than the rule allows
+abbrev pub are_narrow : List Table → Bool
+are_narrow tables = list_all (λ t. nat_le (length t.columns) max_columns) tables
+
 abbrev pub is_small : Schema → Bool
-is_small schema = nat_le (length schema.tables) max_tables && list_all (λ t. nat_le (length t.columns) max_columns) schema.tables
+is_small schema = nat_le (length schema.tables) max_tables && are_narrow schema.tables
 
 abbrev pub IsSmall : Schema → Type 0
 IsSmall schema = is_small schema ≡ true

@@ -2,7 +2,7 @@
 ghost use Rattle.std.specs.Prelude.{◌≡◌, ◌≤◌, ◌<◌, ◌+◌, ◌++◌, ◌∷◌, [], List, length, take, drop, map, IfOk, OnOk};
 ghost use Rattle.std.specs.List.{list_any};
 ghost use Rattle.std.specs.Str.{bytes_eq};
-ghost use Rattle.px_sql.specs.Tables.{column_of, table_of, type_of, has_table, has_column, differ, is_long_first, is_table, keeps_rule, breach_from, schema_of, IsRead, IsSchema, is_small};
+ghost use Rattle.px_sql.specs.Tables.{column_of, table_of, type_of, has_table, has_column, differ, is_long_first, is_table, keeps_rule, breach_from, schema_of, IsRead, IsSchema, is_small, are_narrow};
 ghost use Rattle.px_sql.specs.declared.schema.SchemaError.TheVariants.{NoMemory};
 
 use px_tree::{Column as ColumnDecl, TableDecl};
@@ -154,10 +154,13 @@ fn differ(columns: &[Column]) -> bool
 pub(crate) fn is_small(schema: &Schema) -> bool
     ensures { result ≡ is_small schema.now }
 {
-    schema.tables.len() <= MAX_TABLES
-        && schema
-            .tables
-            .as_slice()
-            .iter()
-            .all(|table| table.columns.len() <= MAX_COLUMNS)
+    schema.tables.len() <= MAX_TABLES && are_narrow(schema.tables.as_slice())
+}
+
+fn are_narrow(tables: &[Table]) -> bool
+    ensures { result ≡ are_narrow tables.now }
+{
+    tables
+        .iter()
+        .all(|table| table.columns.len() <= MAX_COLUMNS)
 }
