@@ -65,7 +65,10 @@ fn op(alloc: Global, table: u16, ask: Ask<'_>, params: &[i64]) -> Result<TableOp
 fn shown_value(value: &Value) -> i64 {
     match value {
         Value::Long(number) => *number,
-        Value::Text(text) => -1001 - i64::try_from(text.as_slice().len()).unwrap_or(0),
+        Value::Text(text) => {
+            let length = i64::try_from(text.as_slice().len()).unwrap_or(0);
+            (-1001i64).saturating_sub(length)
+        }
         _ => -1000,
     }
 }

@@ -104,7 +104,7 @@ fn many_rows_are_found(rt: HostRuntime) -> Result<(), Fail> {
     let mut tables = new_tables(alloc, 3)?;
     for n in 0..20000i64 {
         tables.load(alloc, 0, longs(alloc, &[n, n])?)?;
-        tables.load(alloc, 1, longs(alloc, &[-n, n])?)?;
+        tables.load(alloc, 1, longs(alloc, &[n.wrapping_neg(), n])?)?;
         tables.load(alloc, 2, longs(alloc, &[n.wrapping_mul(7919) % 20011, n])?)?;
     }
     let mut undo = Undo::new(alloc);
