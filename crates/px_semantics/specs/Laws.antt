@@ -1,17 +1,23 @@
 -- What holds of a run whose answers are written in a list, and of one that tables answer.
-use Rattle.std.specs.Prelude.{◌≡◌, ℕ, ◌≤◌, List, [], ◌∷◌, ◌++◌, length, Option}
+use Rattle.std.specs.Prelude.{◌≡◌, ℕ, ◌≤◌, Bool, List, [], ◌∷◌, ◌++◌, length, map, Option, Some, slice_get}
 use Rattle.px_value.specs.declared.value.Value.{Value}
 use Rattle.px_value.specs.declared.object.Object.{Object}
 use Rattle.px_value.specs.declared.statement.TableOp.{TableOp}
 use Rattle.px_value.specs.declared.answer.Answer.{Answer}
+use Rattle.px_facts.specs.declared.checked.Entry.{Entry}
+use Rattle.px_facts.specs.declared.checked.Facts.{Facts}
 use Rattle.px_value.specs.Outcome.{Outcome, Gives, Throws, Asks}
 use Rattle.px_rows.specs.Tables.{Tables}
 use Rattle.px_rows.specs.Means.{fed, answers_to}
 use Rattle.px_semantics.specs.Run.{Shared}
-use Rattle.px_semantics.specs.Operations.{max_operations}
+use Rattle.px_semantics.specs.Operations.{Ask, max_operations}
 use Rattle.px_semantics.specs.Asks.{by_list, by_tables}
 use Rattle.px_semantics.specs.Calls.{Source}
-use Rattle.px_semantics.specs.Entry.{exec}
+use Rattle.px_semantics.specs.Entry.{exec, call_of}
+use Rattle.px_semantics.specs.Serial.{Call, Stand, serves, first_stand}
+use Rattle.px_semantics.specs.Typed.{HaveTypes, are_kept}
+use Rattle.px_semantics.specs.Typing.{inner_type, IsTyped}
+use Rattle.px_semantics.specs.TypedRuns.{OperationsFit, Passes, AnswersTyped, IsSessionHeap, IsTypedAfter, AreTypedCalls, IsTypedStand}
 
 -- how a method ends where the answers are written in a list
 abbrev pub Ends : Type 0
@@ -100,3 +106,27 @@ abbrev pub ListsAsTables : Type 0 → Type 0
 ListsAsTables Q = (P : Source) (heap : List Object) (tables : Tables) (method : ℕ) (args : List Value) (operations : List TableOp)
     → AsksInOrder (on_list P heap method args) operations (answers_to operations tables)
     → IfEnds (on_list P heap method args (answers_to operations tables)) (λ s. EndsSo (on_list P heap method args (answers_to operations tables)) (fed operations tables) (exec {Q = Q} by_tables P heap tables method args))
+
+-- ---- types
+
+-- A call of a typed program leaves a typed heap, and its reply has the entry's type. The world answers typed while it passes a test, and goes
+-- on to pass it.
+abbrev pub AHeapStaysTyped : Type 0 → Type 0
+AHeapStaysTyped W = (test : W → Bool) (ask : Ask ⊥ W) (P : Source) (heap : List Object) (world : W) (place : ℕ) (entry : Entry) (args : List Value)
+    → IsTyped P → AnswersTyped P.facts ask (Passes test) → IsSessionHeap P.facts heap → Passes test world
+    → slice_get P.facts.main.entries place ≡ Some entry → HaveTypes heap (map inner_type entry.params) args
+    → IsTypedAfter P.facts (Passes test) entry (call_of ask P heap world place args)
+
+-- and so do calls one after the other, of all sessions
+abbrev pub AllHeapsStayTyped : Type 0 → Type 0
+AllHeapsStayTyped W = (test : W → Bool) (ask : Ask ⊥ W) (P : Source) (calls : List Call) (stand : Stand W)
+    → IsTyped P → AnswersTyped P.facts ask (Passes test) → AreTypedCalls P.facts calls → IsTypedStand P.facts (Passes test) stand
+    → IsTypedStand P.facts (Passes test) (serves ask P calls stand).1
+
+-- before all calls the heaps are typed
+abbrev pub FirstHeapsAreTyped : Type 0 → Type 0
+FirstHeapsAreTyped W = (test : W → Bool) (P : Source) (sessions : ℕ) (world : W) → Passes test world → IsTypedStand P.facts (Passes test) (first_stand P sessions world)
+
+-- Tables whose cells are longs and texts answer typed, and keep such cells, where the program's operations fit them.
+abbrev pub TablesAnswerTyped : Type 0 → Type 0
+TablesAnswerTyped Q = (widths : List ℕ) (F : Facts) → OperationsFit widths F → AnswersTyped {Q = Q} F by_tables (Passes (are_kept widths))

@@ -10,3 +10,6 @@ pub mod Program
 pub mod Entry
 pub mod Laws
 pub mod Serial
+pub mod Typed
+pub mod Typing
+pub mod TypedRuns

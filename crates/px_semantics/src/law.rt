@@ -1,6 +1,6 @@
 //! What holds of a run whose answers are written down, and of one that tables answer.
 
-ghost use Rattle.px_semantics.specs.Laws.{LongerLists, OnlyWrittenDown, OneForEach, AskedInOrder, OpenAtTheEnd, TablesAsLists, ListsAsTables};
+ghost use Rattle.px_semantics.specs.Laws.{LongerLists, OnlyWrittenDown, OneForEach, AskedInOrder, OpenAtTheEnd, TablesAsLists, ListsAsTables, AHeapStaysTyped, AllHeapsStayTyped, FirstHeapsAreTyped, TablesAnswerTyped};
 
 /// A longer list of answers changes nothing before the end of the list.
 pub fn longer_lists()
@@ -35,4 +35,24 @@ pub fn tables_as_lists<Q>()
 /// A run on what tables answer is the run on the tables.
 pub fn lists_as_tables<Q>()
     ensures { ListsAsTables Q }
+{}
+
+/// A call of a typed program leaves a typed heap, and its reply has the entry's type.
+pub fn a_heap_stays_typed<W>()
+    ensures { AHeapStaysTyped W }
+{}
+
+/// Calls of a typed program, one after the other, leave all heaps typed.
+pub fn all_heaps_stay_typed<W>()
+    ensures { AllHeapsStayTyped W }
+{}
+
+/// Before all calls the heaps are typed.
+pub fn first_heaps_are_typed<W>()
+    ensures { FirstHeapsAreTyped W }
+{}
+
+/// Tables whose cells are longs and texts answer typed, and keep such cells.
+pub fn tables_answer_typed<Q>()
+    ensures { TablesAnswerTyped Q }
 {}
