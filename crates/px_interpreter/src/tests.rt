@@ -36,20 +36,20 @@ fn seven(alloc: Global) -> Result<Stmt, AllocError> {
 }
 
 // The text of a statement of SQL, and the key 5.
-fn operands(alloc: Global, id: u32) -> Result<Items<Expr>, AllocError> {
+fn operands(alloc: Global) -> Result<Items<Expr>, AllocError> {
     let mut args = Items::new(alloc);
     args.push(Expr {
-        id,
+        id: 4,
         token: 0,
         form: ExprForm::Str(Items::new(alloc)),
     })?;
-    args.push(number(alloc, id + 1, b"5", true)?)?;
+    args.push(number(alloc, 5, b"5", true)?)?;
     Ok(args)
 }
 
-// A call of `Db`, with numbers from `id` on.
+// A call of `Db`.
 fn operation(alloc: Global, id: u32) -> Result<Expr, AllocError> {
-    let args = operands(alloc, id + 1)?;
+    let args = operands(alloc)?;
     Ok(Expr {
         id,
         token: 0,
