@@ -3,7 +3,10 @@ ghost use Rattle.std.specs.Prelude.{◌≡◌, length, IfOk};
 use super::text;
 use crate::{ShownCall, run_text};
 use px_code::{Reply, Shown};
-use px_value::{Header, Heap, Kind, Text, Thrown, Value, Values};
+use px_rows::Tables;
+use px_value::{
+    Column, ColumnType, Header, Heap, Kind, Schema, Table, Text, Thrown, Value, Values,
+};
 use sqlite_items::Items;
 use std::alloc::{AllocError, Global};
 use std::test::Fail;
@@ -29,6 +32,37 @@ fn call(session: u16, number: u64, reply: Reply, prints: Items<Text>) -> ShownCa
         number,
         shown: Shown { reply, prints },
     }
+}
+
+// A table with no rows, and one with a row of these cells; the first is the key.
+fn schema(alloc: Global) -> Result<Schema, AllocError> {
+    let mut tables = Items::new(alloc);
+    for name in [b"none".as_slice(), b"some".as_slice()] {
+        let mut columns = Items::new(alloc);
+        columns.push(Column {
+            name: text(alloc, b"id")?,
+            ty: ColumnType::Long,
+        })?;
+        tables.push(Table {
+            name: text(alloc, name)?,
+            columns,
+        })?;
+    }
+    Ok(Schema { tables })
+}
+
+fn row(alloc: Global, key: i64, last: &[u8]) -> Result<Values, AllocError> {
+    let mut row = Values::new(alloc);
+    row.push(Value::Long(key))?;
+    row.push(Value::Text(text(alloc, last)?))?;
+    Ok(row)
+}
+
+fn tables(alloc: Global, schema: &Schema) -> Result<Tables, Fail> {
+    let mut tables = Tables::new(alloc, schema)?;
+    tables.load(alloc, 1, row(alloc, 9, b"\"")?)?;
+    tables.load(alloc, 1, row(alloc, -10, b"")?)?;
+    Ok(tables)
 }
 
 fn printed(alloc: Global) -> Result<Items<Text>, AllocError> {
@@ -74,7 +108,9 @@ fn a_run_is_printed(rt: HostRuntime) -> Result<(), Fail> {
     let mut full = Heap::new(alloc);
     full.add(header, cells(alloc)?)?;
     let heaps = vec![in alloc; full, heap]?;
-    let text = run_text(alloc, &classes, &calls, &heaps)?;
+    let schema = schema(alloc)?;
+    let tables = tables(alloc, &schema)?;
+    let text = run_text(alloc, &classes, &schema, &calls, &tables, &heaps)?;
     let expected = b"calls
 call 2 1 void
 call 1 1 -70
@@ -82,6 +118,10 @@ print 1 \"\"
 print 1 \"a\"
 call 2 2 threw NullPointerException
 tables
+table none
+table some
+row -10 \"\"
+row 9 \"\\\"\"
 heaps
 heap 1
 0 Main -2147483648 9223372036854775807 true false \"a\\n\\t\\\"\\\\ z\" null #12
