@@ -12,6 +12,7 @@ use px_report::{ShownCall, run_text};
 use px_rows::{LoadError, Tables};
 use px_tree::Class;
 use px_value::{Schema, Text, Value, Values};
+use sqlite_items::at;
 use std::alloc::{AllocError, Global};
 
 fn copied(alloc: Global, values: &[Value]) -> Result<Values, AllocError>
@@ -110,7 +111,7 @@ fn shown_calls(
     let mut all = Vec::new(alloc);
     let mut place: usize = 0;
     for shown in shown {
-        let session = session_of(calls.get(place));
+        let session = session_of(at(calls, place));
         let number = count(&mut counts, session);
         all.push(ShownCall {
             session,

@@ -11,4 +11,5 @@ invariant-loop-shown l = record {
   counts : l.counts.items ≡ counts_from l.fn.calls 0 (no_counts l.fn.sessions) l.yielded;
   few : AreFew (length l.yielded) l.counts.items;
   place : l.place ≡ length l.yielded;
+  made : length l.all.items ≡ length l.yielded;
 }
