@@ -16,7 +16,7 @@ use Rattle.px_value.specs.declared.statement.TableOp.{TableOp}
 use Rattle.px_value.specs.declared.answer.Answer.{Answer}
 use Rattle.px_value.specs.Outcome.{Outcome, Gives, Throws, Asks}
 use Rattle.px_rows.specs.Tables.{Row, Table, Tables, Place, or_empty, table_at, row_at, rows_of, put_row, with_row}
-use Rattle.px_rows.specs.Means.{by_key, table_of, key_of, place_of, column_of, cells_of, rows_with, seen_by, told, answer_to, assigned, written_by, write_in, write_of, after_write, after}
+use Rattle.px_rows.specs.Means.{by_key, table_of, key_of, place_of, column_of, cells_of, rows_with, seen_by, told, answer_to, assigned, written_by, write_of, after_write, after}
 use Rattle.px_facts.specs.declared.checked.Facts.{Facts}
 use Rattle.px_semantics.specs.Asks.{by_tables}
 use Rattle.px_semantics.specs.Typed as typed
@@ -274,10 +274,6 @@ written_kept widths (statement.ByKey table columns) params found f p h = tt
 written_kept widths (statement.ByColumn table columns column) params found f p h = tt
 written_kept widths (statement.All table columns) params found f p h = tt
 
-write_kept : (n : ℕ) (found : Option Table) (o : TableOp) → ((row : Option Row) → IfRow n row → IfWrite n (written_by o.statement o.params row)) → AllRows n (values (or_empty found)) → IfWrite n (write_in found o)
-write_kept n None o f h = tt
-write_kept n (Some t) o f h = f (get t (key_of o.statement o.params)) (get_kept n t (key_of o.statement o.params) h)
-
 after_write_kept : (widths : List ℕ) (w : Option (Option Row)) (c : Place) (T : Tables) → AllTables widths T → IfWrite (width_at widths c.table) w → AllTables widths (after_write w c T)
 after_write_kept widths None c T h g = h
 after_write_kept widths (Some row) c T h g = with_row_kept widths T c row h g
@@ -286,7 +282,7 @@ after_kept : (widths : List ℕ) (o : TableOp) (T : Tables) → AllTables widths
 unfolding after
 after_kept widths o T h f p =
     let table = table_of o.statement in
-    after_write_kept widths (write_of o T) (place_of o) T h (write_kept (width_at widths table) (slice_get T table) o (λ row. written_kept widths o.statement o.params row f p) (table_kept widths T table h))
+    after_write_kept widths (write_of o T) (place_of o) T h (written_kept widths o.statement o.params (row_at T (place_of o)) f p (get_kept (width_at widths table) (table_at T table) (key_of o.statement o.params) (table_kept widths T table h)))
 
 -- ---- all of it
 
