@@ -1,0 +1,12 @@
+pub mod Clean
+pub mod Operators
+pub mod Standing
+pub mod Premises
+pub mod Expressions
+pub mod Scopes
+pub mod Statements
+pub mod Methods
+pub mod Programs
+pub mod Asked
+pub mod Accepted
+pub mod Texts

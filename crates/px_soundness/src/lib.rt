@@ -1,0 +1,4 @@
+//! The type rules are sound.
+#![tactic(auto)]
+
+pub mod law;
