@@ -42,7 +42,6 @@ use Rattle.px_soundness.proofs.Clean.{and_left, and_right, some_is}
 
 -- ---- a statement over a schema
 
-
 column_count : (tables : List Table) (table : ℕ) → unwrap_or (slice_get (map width_of tables) table) 0 ≡ length (table_columns (slice_get tables table))
 column_count [] table = refl
 column_count (t ∷ ts) zero = refl

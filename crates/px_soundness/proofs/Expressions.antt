@@ -31,15 +31,15 @@ use Rattle.px_rules.specs.declared.locals.Locals.{Locals}
 use Rattle.px_rules.specs.declared.scope.Scope.{Scope}
 use Rattle.px_rules.specs.declared.database.Verb.{Verb}
 use Rattle.px_rules.specs.declared.database.Verb.TheVariants as verb
-use Rattle.px_rules.specs.Breaches.{Note, breach_if, New}
+use Rattle.px_rules.specs.Breaches.{breach_if, New}
 use Rattle.px_rules.specs.Names.{find}
 use Rattle.px_rules.specs.Literals.{literal_type}
 use Rattle.px_rules.specs.Operators.{is_minus, prefix_fits, prefix_type, group_of, operands_fit, group_type, compares_texts}
 use Rattle.px_rules.specs.Members.{base_type, class_type, no_class, names_no_class, field_of, method_of}
 use Rattle.px_rules.specs.Scopes.{no_locals, variable_type}
-use Rattle.px_rules.specs.Facts.{typed_only, variable_fact, field_fact, method_fact, new_of, new_fact, new_array_fact, database_fact, verb_fact, field_at, field_place, method_at, method_place, numbered_method}
-use Rattle.px_rules.specs.Database.{Written, Bare, Literal, Other, written, asked, literal_in, operation_of, asked_operation, each_fits, all_fit, text_notes, fits_verb, if_fitting, first_written as text_written, column_type, verb_type}
-use Rattle.px_rules.specs.Expressions.{Typed, typed, of_type, number, text, misfit, variable, bracketed, field, index, arguments, wanted, has_count, call, types_of, database_notes, database_call, new_object, new_array, prefixed, binary, method_notes, field_notes, texts_compared, result_of, found_type}
+use Rattle.px_rules.specs.Facts.{typed_only, variable_fact, field_fact, method_fact, new_of, new_fact, database_fact, verb_fact, field_at, field_place, method_at, method_place, numbered_method}
+use Rattle.px_rules.specs.Database.{Written, Bare, Literal, Other, written, asked, literal_in, operation_of, asked_operation, each_fits, all_fit, text_notes, fits_verb, if_fitting, column_type, verb_type}
+use Rattle.px_rules.specs.Expressions.{Typed, typed, of_type, number, text, misfit, variable, bracketed, field, index, arguments, wanted, has_count, call, types_of, database_notes, database_call, new_object, new_array, prefixed, binary, method_notes, result_of, found_type}
 use Rattle.px_rules.specs.Known.{Known, known, fact_only, leaf, all_nodes, argument_nodes, text_known, name_known, group_known, field_known, index_known, own_call, call_known, operation_in, array_known, operator_known}
 use Rattle.px_rules.proofs.Forms.{typed_by_form, typed_written, typed_number, typed_text, typed_true, typed_false, typed_null, typed_this, typed_name, typed_group, typed_field, typed_index, typed_own_call, typed_call, typed_database_call, typed_new, typed_new_array, typed_prefix, typed_binary, text_is_read, no_text}
 use Rattle.px_rules.proofs.KnownForms.{known_by_form, known_number, known_text, known_true, known_false, known_null, known_this, known_name, known_group, known_field, known_index, known_own_call, known_call, database_call as database_known, known_database_call, known_new, known_new_array, known_prefix, known_binary}
@@ -47,7 +47,7 @@ use Rattle.px_rules.specs.declared.home.Home.{Home}
 use Rattle.px_rules.specs.declared.context.Context.{Context}
 use Rattle.px_sql.specs.Parameters as sql
 use Rattle.px_sql.specs.Reading.{statement_of}
-use Rattle.px_semantics.specs.Facts.{type_at, named_at, by_number, prefix_of}
+use Rattle.px_semantics.specs.Facts.{type_at, named_at, prefix_of}
 use Rattle.px_semantics.specs.Typing as t
 use Rattle.px_semantics.specs.Typing.{Fits, IsVariable, IsMember, IsLibrary, IsSendable, AreSendable, IsTypedExpr, IsReceiver, AreArguments}
 use Rattle.px_soundness.specs.Numbered.{IsExpr, AreExprs, IsElement, IsBinary, IsPrefix}

@@ -33,7 +33,7 @@ use Rattle.px_rules.specs.Names.{has_name, reserves, place_of, value_at, find}
 use Rattle.px_rules.specs.Members.{param_type, result_type, no_members, field_type, method_type, with_member, class_members, field_of, method_of}
 use Rattle.px_rules.specs.Scopes.{no_locals}
 use Rattle.px_rules.specs.Methods.{result_notes, param_notes, method_notes, is_entry_param, is_entry_result, is_public, entry_notes}
-use Rattle.px_rules.specs.Programs.{field_names, member_notes, fields_with, members_notes, all_members, member_body, class_bodies, bodies, entries, main_notes, max_fields}
+use Rattle.px_rules.specs.Programs.{field_names, members_notes, all_members, class_bodies, bodies, entries, main_notes, max_fields}
 use Rattle.px_rules.specs.Bodies.{firsts_from, told_body, method_known, class_found, all_found, next_class}
 use Rattle.px_rules.specs.Entries.{value_type, gives_type, param_value, entry_of, entry_if, entries_from, first_method, main_from}
 use Rattle.px_semantics.specs.Facts.{by_number, fields_in}

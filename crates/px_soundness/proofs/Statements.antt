@@ -16,7 +16,7 @@ use Rattle.px_tree.specs.declared.StmtForm.TheVariants as st
 use Rattle.px_facts.specs.declared.types.Ty.{Ty}
 use Rattle.px_facts.specs.declared.types.Ty.TheVariants as ty
 use Rattle.px_facts.specs.declared.checked.Facts.{Facts}
-use Rattle.px_facts.specs.Types.{is_unknown, is_void, is_number, is_array, is_printable, fits, array_of}
+use Rattle.px_facts.specs.Types.{is_unknown, is_void, is_number, is_array, fits, array_of}
 use Rattle.px_rules.specs.declared.table.Table.{Table}
 use Rattle.px_rules.specs.declared.node.Node.{Node}
 use Rattle.px_rules.specs.declared.classes.Classes.{Classes}

@@ -29,7 +29,6 @@ use Rattle.px_soundness.proofs.Clean.{some_is}
 
 -- ---- words
 
-
 binary_by : (x : Word) (s : Sign) → binary_sign x ≡ Some s → IsBinary s
 binary_by w.Public s h = absurd (cc h)
 binary_by w.Private s h = absurd (cc h)
