@@ -12,10 +12,10 @@ ghost use Rattle.px_main.specs.Solo.{asked, heap_of, history_of, IsPlanOf, AreDo
 use crate::serial::{class_names, method_of, run_serial};
 use px_code::{Code, Done, Event, Placement, Plans};
 use px_compile::compile;
-use px_split_job::{Call, Part, SplitJob};
 use px_mean::Session;
 use px_report::report_text;
 use px_session::{Wanted, serve};
+use px_split_job::{Call, Part, SplitJob};
 use px_types::{Checked, Entry};
 use px_value::Heap;
 use std::alloc::{AllocError, Global};

@@ -44,10 +44,7 @@ fn line_of_table(program: &Program, index: u32) -> u32
     }
 }
 
-fn check_program(
-    alloc: Global,
-    program: Program,
-) -> Result<Result<Checked, Fault>, AllocError>
+fn check_program(alloc: Global, program: Program) -> Result<Result<Checked, Fault>, AllocError>
     ensures { IfOk result (λ found. found ≡ by_tables program (schema_of program.tables)) }
 {
     match read_schema(alloc, program.tables.as_slice()) {

@@ -81,13 +81,7 @@ const PROGRAM_REFUSED: [Case; 6] = [
 ];
 
 const JOB_REFUSED: [Case; 11] = [
-    (
-        "a row of no table",
-        PROGRAM,
-        "row t 1",
-        6,
-        "job 1 J6\n",
-    ),
+    ("a row of no table", PROGRAM, "row t 1", 6, "job 1 J6\n"),
     ("a part", PROGRAM, "part p upto 1000", 6, "job 1 Later\n"),
     (
         "an unknown entry",

@@ -217,14 +217,44 @@ const FAULTS: [Case; 14] = [
 
 const JOBS: [Case; 9] = [
     ("too few values", PAIRS, "row t 1", 6, "job 1 J7\n"),
-    ("a key again", PAIRS, "row t 1 0\nrow t 001 2\n", 6, "job 2 J9\n"),
+    (
+        "a key again",
+        PAIRS,
+        "row t 1 0\nrow t 001 2\n",
+        6,
+        "job 2 J9\n",
+    ),
     ("no value", PAIRS, "call 1 set 1 x", 6, "job 1 J1\n"),
-    ("a text for a long", PAIRS, "call 1 set 1 \"x\"", 6, "job 1 J12\n"),
-    ("no second session", PAIRS, "call 2 set 1 1", 6, "job 1 J5\n"),
+    (
+        "a text for a long",
+        PAIRS,
+        "call 1 set 1 \"x\"",
+        6,
+        "job 1 J12\n",
+    ),
+    (
+        "no second session",
+        PAIRS,
+        "call 2 set 1 1",
+        6,
+        "job 1 J5\n",
+    ),
     ("no such table", PAIRS, "\nrow u 1 2\n", 6, "job 2 J6\n"),
     ("a null in a row", PAIRS, "row t 1 null\n", 6, "job 1 J8\n"),
-    ("a setting again", PAIRS, "sessions 17\nsessions 2\n", 6, "job 1 J4\n"),
-    ("a part before all else", PAIRS, "frob\npart p upto 1000\n", 6, "job 2 Later\n"),
+    (
+        "a setting again",
+        PAIRS,
+        "sessions 17\nsessions 2\n",
+        6,
+        "job 1 J4\n",
+    ),
+    (
+        "a part before all else",
+        PAIRS,
+        "frob\npart p upto 1000\n",
+        6,
+        "job 2 Later\n",
+    ),
 ];
 
 #[test]
