@@ -204,12 +204,12 @@ run_status c job a h = calls_status c (job_of c.facts.main.entries c.schema job)
 solo_status : (c : Checked) (job : List ℕ) (a : Answer) → answers_solo c job a → a.0 ≡ status_solo c job
 solo_status c job a h = split_status c (split_job_of c.entries (lowered c) job) a h
 
-read_no_five : {A : Type 0} (r : Result A JobFault) → status_read r ≡ 5 → ⊥
+read_no_five : {A F : Type 0} (r : Result A F) → status_read r ≡ 5 → ⊥
 read_no_five (Err f) h = absurd (omega (arith, h))
 read_no_five (Ok x) h = absurd (omega (arith, h))
 
 run_no_five : (c : WholeChecked) (job : List ℕ) → status_run c job ≡ 5 → ⊥
-run_no_five c job h = read_no_five (job_of (entries_of c) job) h
+run_no_five c job h = read_no_five (job_of c.facts.main.entries c.schema job) h
 
 solo_no_five : (c : Checked) (job : List ℕ) → status_solo c job ≡ 5 → ⊥
 solo_no_five c job h = read_no_five (split_job_of c.entries (lowered c) job) h
