@@ -1,0 +1,1 @@
+//! What of files and sinks no clause says.

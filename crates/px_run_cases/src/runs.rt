@@ -1,0 +1,1 @@
+//! What of runs no clause says.

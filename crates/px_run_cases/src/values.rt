@@ -1,0 +1,1 @@
+//! What of values, operators and tables no clause says.

@@ -1,0 +1,1 @@
+//! What of messages and ends no clause says.

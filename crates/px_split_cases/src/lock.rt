@@ -1,0 +1,1 @@
+//! That threads get through the lock.

@@ -1,0 +1,1 @@
+//! What of plans no clause says.

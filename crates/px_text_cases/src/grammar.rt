@@ -1,0 +1,1 @@
+//! What of the grammar no clause says.

@@ -1,0 +1,1 @@
+//! What of jobs no clause says.

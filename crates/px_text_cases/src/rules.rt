@@ -1,0 +1,1 @@
+//! What of the type rules and of SQL no clause says.
