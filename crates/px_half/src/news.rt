@@ -7,13 +7,9 @@ ghost use Rattle.px_half.specs.Absorbed.{element_type as type_of_element, new_ce
 use crate::first_heap::class_defaults;
 use crate::undo::{Change, make};
 use px_code::Code;
-use px_value::{Header, Heap, Kind, Ty, Values};
+use px_value::{Header, Heap, Kind, MAX_COUNTED, MAX_ELEMENTS, Ty, Values};
 use sqlite_items::at;
 use std::alloc::{AllocError, Global};
-
-const MAX_COUNTED: usize = 100000;
-
-const MAX_ELEMENTS: u32 = 50000;
 
 // The type of the elements of an array, by its number.
 fn element_type(element: u16) -> Ty

@@ -12,13 +12,9 @@ use crate::machine::Machine;
 use crate::prints::text_of;
 use crate::stop::Stop;
 use px_facts::{Element, Ty};
-use px_value::{AddError, Kind, Thrown, Value, Values};
+use px_value::{AddError, Kind, MAX_ELEMENTS, MAX_TURNS, Thrown, Value, Values};
 use sqlite_items::at;
 use std::alloc::{AllocError, Global};
-
-const MAX_TURNS: u32 = 100000;
-
-const MAX_ELEMENTS: usize = 50000;
 
 /// The object of a reference.
 pub fn reference(value: &Value) -> Result<u32, Thrown>
@@ -261,7 +257,7 @@ impl Machine {
         ensures turns { self.new.turns ≡ self.old.turns }
     {
         let count = array_size(size)?;
-        if count > MAX_ELEMENTS {
+        if count > MAX_ELEMENTS as usize {
             return Err(Stop::Threw(Thrown::HeapFull));
         }
         let number = element_number(element)?;

@@ -11,14 +11,10 @@ use crate::facts::operation_at;
 use crate::machine::Machine;
 use crate::stop::Stop;
 use px_facts::{Facts, copy_statement};
-use px_value::{Answer, Statement, TableOp, Thrown, Value, Values};
+use px_value::{
+    Answer, MAX_OPERATIONS, MAX_PARAMETER, MAX_TEXTS, Statement, TableOp, Thrown, Value, Values,
+};
 use std::alloc::Global;
-
-const MAX_OPERATIONS: u32 = 100;
-
-const MAX_TEXT: usize = 255;
-
-const MAX_TEXTS: usize = 500;
 
 fn is_null(value: &Value) -> bool
     ensures { result ≡ mean.is_null value.now }
@@ -52,7 +48,7 @@ fn are_short(values: &[Value]) -> bool
     let mut total: usize = 0;
     for value in values {
         let size = text_size(value);
-        if size > MAX_TEXT {
+        if size > MAX_PARAMETER {
             return false;
         }
         if size > MAX_TEXTS - total {

@@ -23,12 +23,10 @@ use px_code::{Reply, Shown};
 use px_facts::{Checked, Facts, Ty};
 use px_rows::Tables;
 use px_tree::{Class, Member, Method};
-use px_value::{Header, Heap, Kind, Schema, Value, Values};
+use px_value::{Header, Heap, Kind, MAX_FRAMES, Schema, Value, Values};
 use sqlite_items::{Items, at};
 use std::alloc::{AllocError, Global};
 use std::mem;
-
-const MAX_FRAMES: u32 = 200;
 
 /// The heaps of the sessions of a program, and its tables.
 #[derive(Drop)]

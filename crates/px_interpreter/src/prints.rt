@@ -5,12 +5,8 @@ ghost use Rattle.px_value.specs.Operators.{text_of as mean_text_of};
 ghost use Rattle.px_semantics.specs.Effects.{max_prints, max_printed};
 
 use itoa::{Buffer, Integer};
-use px_value::{Text, Value};
+use px_value::{MAX_PRINTED, MAX_PRINTS, Text, Value};
 use std::alloc::{AllocError, Global};
-
-const MAX_PRINTS: usize = 1000;
-
-const MAX_PRINTED: usize = 20000;
 
 /// The lines, and how many bytes they have.
 #[derive(Drop)]

@@ -7,7 +7,7 @@ use Rattle.std.proofs.lemmas.List.{length-set, length-append, append-nil}
 use Rattle.px_value.specs.declared.schema.Table.{Table}
 use Rattle.px_value.specs.declared.value.Value.{Value}
 use Rattle.px_facts.specs.declared.checked.Entry.{Entry}
-use Rattle.px_job.specs.Names.{is_name}
+use Rattle.px_lex.specs.Names.{is_identifier}
 use Rattle.px_job.specs.Places.{place_of}
 use Rattle.px_job.specs.Numbers.{number, within, are_digits, numbers_within}
 use Rattle.px_job.specs.Arguments.{is_digits, is_value, arguments_of}
@@ -76,7 +76,7 @@ pub row_fits : (tables : List Table) (rows : List Row) (words : List (List ℕ))
 row_fits tables rows [] = tt
 row_fits tables rows (name ∷ []) = tt
 row_fits tables rows (name ∷ word ∷ words) =
-    elim (not (is_name name && list_all is_value (word ∷ words))) as (λ b. RowFits tables rows (if b then Err J1 else row_of tables rows name (word ∷ words))) [
+    elim (not (is_identifier name && list_all is_value (word ∷ words))) as (λ b. RowFits tables rows (if b then Err J1 else row_of tables rows name (word ∷ words))) [
       | true ↦ tt
       | false ↦ row_in_fits tables rows (word ∷ words) (option_and_then short_place (table_of name tables))
     ]
@@ -110,7 +110,7 @@ pub call_fits : (entries : List Entry) (sessions calls : ℕ) (words : List (Lis
 call_fits entries sessions calls [] = tt
 call_fits entries sessions calls (session ∷ []) = tt
 call_fits entries sessions calls (session ∷ name ∷ words) =
-    elim (not (is_digits session && is_name name && list_all is_value words)) as (λ b. CallFits entries sessions calls (if b then Err J1 else call_by entries calls name words (within 1 sessions (number session)))) [
+    elim (not (is_digits session && is_identifier name && list_all is_value words)) as (λ b. CallFits entries sessions calls (if b then Err J1 else call_by entries calls name words (within 1 sessions (number session)))) [
       | true ↦ tt
       | false ↦ call_by_fits entries sessions calls name words (within 1 sessions (number session)) (within_fits 1 sessions (number session))
     ]

@@ -14,8 +14,9 @@ use Rattle.px_value.specs.declared.value.Value.{Value}
 use Rattle.px_value.specs.declared.value.Value.TheVariants as values
 use Rattle.px_job.specs.Texts.{text_of}
 use Rattle.px_job.specs.Numbers.{number, within, with_number, numbers_within}
-use Rattle.px_job.specs.Arguments.{is_null, bool_of, int_from, short_text, max_text, argument_of, arguments_of, with_argument}
-use Rattle.px_job.specs.Cells.{short_cell, max_cell, cell_of, cells_of}
+use Rattle.px_value.specs.Limits.{max_text, max_parameter}
+use Rattle.px_job.specs.Arguments.{is_null, bool_of, int_from, short_text, argument_of, arguments_of, with_argument}
+use Rattle.px_job.specs.Cells.{short_cell, cell_of, cells_of}
 use Rattle.px_job.specs.Fitting.{has_bits, has_type, HaveTypes, fits_column, FitColumns}
 
 -- ---- numbers
@@ -89,9 +90,9 @@ text_fits : (text : Option (List ℕ)) → IfSome (option_and_then short_text te
 text_fits None = tt
 text_fits (Some text) = short_by max_text text (nat_le (length text) max_text) refl
 
-cell_text_fits : (text : Option (List ℕ)) → IfSome (option_and_then short_cell text) (λ t. nat_le (length t) max_cell ≡ true)
+cell_text_fits : (text : Option (List ℕ)) → IfSome (option_and_then short_cell text) (λ t. nat_le (length t) max_parameter ≡ true)
 cell_text_fits None = tt
-cell_text_fits (Some text) = short_by max_cell text (nat_le (length text) max_cell) refl
+cell_text_fits (Some text) = short_by max_parameter text (nat_le (length text) max_parameter) refl
 
 bool_fits : (found : Option Bool) → IfSome (option_map values.Bool found) (λ value. has_type types.Bool value ≡ true)
 bool_fits None = tt
@@ -117,7 +118,7 @@ arguments_fit (ty ∷ tys) (word ∷ words) = both_fit ty tys (argument_of ty wo
 
 cell_fits : (ty : ColumnType) (word : List ℕ) → IfSome (cell_of ty word) (λ value. fits_column ty value ≡ true)
 cell_fits columns.Long word = mapped (λ n. has_bits 63 n ≡ true) (λ value. fits_column columns.Long value ≡ true) values.Long (i64_of word) (long_fits word) (λ _ p. p)
-cell_fits columns.Text word = mapped (λ t. nat_le (length t) max_cell ≡ true) (λ value. fits_column columns.Text value ≡ true) values.Text (option_and_then short_cell (text_of word)) (cell_text_fits (text_of word)) (λ _ p. p)
+cell_fits columns.Text word = mapped (λ t. nat_le (length t) max_parameter ≡ true) (λ value. fits_column columns.Text value ≡ true) values.Text (option_and_then short_cell (text_of word)) (cell_text_fits (text_of word)) (λ _ p. p)
 
 both_cells_fit : (column : Column) (columns : List Column) (first : Option Value) (more : Option (List Value)) → IfSome first (λ value. fits_column column.ty value ≡ true) → IfSome more (λ values. FitColumns columns values) → IfSome (with_argument first more) (λ values. FitColumns (column ∷ columns) values)
 both_cells_fit column columns None more p q = tt

@@ -4,7 +4,7 @@ use Rattle.std.specs.List.{list_all}
 use Rattle.px_value.specs.declared.value.Value.{Value}
 use Rattle.px_facts.specs.declared.checked.Entry.{Entry}
 use Rattle.px_job.specs.Places.{place_of}
-use Rattle.px_job.specs.Names.{is_name}
+use Rattle.px_lex.specs.Names.{is_identifier}
 use Rattle.px_job.specs.Numbers.{number, within}
 use Rattle.px_job.specs.Arguments.{is_digits, is_value, arguments_of}
 use Rattle.px_job.specs.declared.job.Call.{Call}
@@ -34,5 +34,5 @@ call_by entries calls name words (Some session) = call_to entries calls words se
 
 -- the words behind `call`: a session, an entry and its arguments
 abbrev pub judged_call : List Entry → ℕ → ℕ → List (List ℕ) → Result Call JobCode
-judged_call entries sessions calls (session ∷ name ∷ words) = if not (is_digits session && is_name name && list_all is_value words) then Err J1 else call_by entries calls name words (within 1 sessions (number session))
+judged_call entries sessions calls (session ∷ name ∷ words) = if not (is_digits session && is_identifier name && list_all is_value words) then Err J1 else call_by entries calls name words (within 1 sessions (number session))
 judged_call entries sessions calls _ = Err J1

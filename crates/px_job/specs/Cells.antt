@@ -2,6 +2,7 @@
 use Rattle.std.specs.Prelude.{ℕ, nat_le, List, [], ◌∷◌, length, Option, Some, None, if◌then◌else◌}
 use Rattle.std.specs.Option.{option_map, option_and_then}
 use Rattle.px_outside.specs.Numbers.{i64_of}
+use Rattle.px_value.specs.Limits.{max_parameter}
 use Rattle.px_value.specs.declared.schema.Column.{Column}
 use Rattle.px_value.specs.declared.schema.ColumnType.{ColumnType}
 use Rattle.px_value.specs.declared.schema.ColumnType.TheVariants as columns
@@ -10,12 +11,8 @@ use Rattle.px_value.specs.declared.value.Value.TheVariants as values
 use Rattle.px_job.specs.Texts.{text_of}
 use Rattle.px_job.specs.Arguments.{with_argument}
 
--- the most bytes of a text in a row
-abbrev pub max_cell : ℕ
-max_cell = 255
-
 abbrev pub short_cell : List ℕ → Option (List ℕ)
-short_cell text = if nat_le (length text) max_cell then Some text else None
+short_cell text = if nat_le (length text) max_parameter then Some text else None
 
 -- the value of a column that a word stands for
 abbrev pub cell_of : ColumnType → List ℕ → Option Value

@@ -11,8 +11,7 @@ use Rattle.px_value.specs.declared.schema.ColumnType.TheVariants as columns
 use Rattle.px_value.specs.declared.value.Value.{Value}
 use Rattle.px_value.specs.declared.value.Value.TheVariants as values
 use Rattle.px_facts.specs.declared.checked.Entry.{Entry}
-use Rattle.px_job.specs.Arguments.{max_text}
-use Rattle.px_job.specs.Cells.{max_cell}
+use Rattle.px_value.specs.Limits.{max_text, max_parameter}
 use Rattle.px_job.specs.Settings.{in_range}
 use Rattle.px_job.specs.Rows.{key_stands, max_rows}
 use Rattle.px_job.specs.Calls.{max_calls}
@@ -46,7 +45,7 @@ HaveTypes _ _ = ⊥
 -- a value has its column's type, and is in its range
 abbrev pub fits_column : ColumnType → Value → Bool
 fits_column columns.Long (values.Long number) = has_bits 63 number
-fits_column columns.Text (values.Text text) = nat_le (length text) max_cell
+fits_column columns.Text (values.Text text) = nat_le (length text) max_parameter
 fits_column _ _ = false
 
 abbrev pub FitColumns : List Column → List Value → Type 0

@@ -7,7 +7,7 @@ use Rattle.std.specs.Str.{bytes_eq}
 use Rattle.px_value.specs.declared.schema.Table.{Table}
 use Rattle.px_value.specs.declared.value.Value.{Value}
 use Rattle.px_value.specs.declared.value.Value.TheVariants as values
-use Rattle.px_job.specs.Names.{is_name}
+use Rattle.px_lex.specs.Names.{is_identifier}
 use Rattle.px_job.specs.Arguments.{is_value}
 use Rattle.px_job.specs.Cells.{cells_of}
 use Rattle.px_job.specs.declared.job.Row.{Row}
@@ -66,5 +66,5 @@ row_of tables rows name words = row_in tables rows words (option_and_then short_
 
 -- the words behind `row`: a table and its values
 abbrev pub judged_row : List Table → List Row → List (List ℕ) → Result Row JobCode
-judged_row tables rows (name ∷ word ∷ words) = if not (is_name name && list_all is_value (word ∷ words)) then Err J1 else row_of tables rows name (word ∷ words)
+judged_row tables rows (name ∷ word ∷ words) = if not (is_identifier name && list_all is_value (word ∷ words)) then Err J1 else row_of tables rows name (word ∷ words)
 judged_row tables rows _ = Err J1

@@ -10,11 +10,8 @@ ghost use Rattle.px_job.specs.Arguments.{is_digits, is_number, is_true, is_false
 use crate::texts::{read_text, text_len};
 use crate::words::split_word;
 use px_outside::read_i64;
-use px_value::{Text, Ty, Value, Values};
+use px_value::{MAX_TEXT, Text, Ty, Value, Values};
 use std::alloc::{AllocError, Global};
-
-/// The most bytes of a text.
-const MAX_TEXT: usize = 500;
 
 /// Whether the word is one or more digits.
 pub(crate) fn is_digits(word: &[u8]) -> bool

@@ -10,9 +10,9 @@ use crate::arguments::{count_values, is_digits, read_arguments};
 use crate::entries::Entries;
 use crate::job::{Call, JobCode};
 use crate::judge::Refusal;
-use crate::names::is_name;
 use crate::numbers::read_within;
 use crate::words::split_word;
+use px_lex::is_identifier;
 use sqlite_items::at;
 use std::alloc::Global;
 
@@ -35,7 +35,7 @@ pub(crate) fn judge_call(
     let Some((name, rest)) = split_word(rest) else {
         return Err(Refusal::Breaks(JobCode::J1));
     };
-    if !is_digits(session) || !is_name(name) {
+    if !is_digits(session) || !is_identifier(name) {
         return Err(Refusal::Breaks(JobCode::J1));
     }
     let Some(count) = count_values(rest) else {

@@ -8,11 +8,8 @@ ghost use Rattle.px_job.specs.Cells.{cell_of, cells_of};
 use crate::texts::{read_text, text_len};
 use crate::words::split_word;
 use px_outside::read_i64;
-use px_value::{Column, ColumnType, Text, Value, Values};
+use px_value::{Column, ColumnType, MAX_PARAMETER, Text, Value, Values};
 use std::alloc::{AllocError, Global};
-
-/// The most bytes of a text in a row.
-const MAX_CELL: usize = 255;
 
 /// The values that the words stand for, each of its column.
 pub(crate) fn read_cells(
@@ -58,7 +55,7 @@ fn read_short(alloc: Global, word: &[u8]) -> Result<Option<Value>, AllocError>
     ensures { IfOk result (λ value. value ≡ cell_of ColumnType.Text word.now) }
 {
     match text_len(word) {
-        Some(len) if len <= MAX_CELL => match read_text(alloc, word)? {
+        Some(len) if len <= MAX_PARAMETER => match read_text(alloc, word)? {
             Some(text) => Ok(Some(Value::Text(Text::from_vec(text)))),
             None => Ok(None),
         },

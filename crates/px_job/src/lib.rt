@@ -12,7 +12,6 @@ mod keys;
 mod laws;
 mod lines;
 mod loads;
-mod names;
 mod numbers;
 mod places;
 mod read;

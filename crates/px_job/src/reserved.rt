@@ -3,73 +3,9 @@
 ghost use Rattle.std.specs.Prelude.{◌≡◌};
 ghost use Rattle.std.specs.List.{list_any};
 ghost use Rattle.std.specs.Str.{bytes_eq};
-ghost use Rattle.px_job.specs.Reserved.{is_reserved, is_part_word};
-
-// The keywords of Java, and `true`, `false` and `null`.
-const RESERVED: [&[u8]; 53] = [
-    b"abstract",
-    b"assert",
-    b"boolean",
-    b"break",
-    b"byte",
-    b"case",
-    b"catch",
-    b"char",
-    b"class",
-    b"const",
-    b"continue",
-    b"default",
-    b"do",
-    b"double",
-    b"else",
-    b"enum",
-    b"extends",
-    b"final",
-    b"finally",
-    b"float",
-    b"for",
-    b"goto",
-    b"if",
-    b"implements",
-    b"import",
-    b"instanceof",
-    b"int",
-    b"interface",
-    b"long",
-    b"native",
-    b"new",
-    b"package",
-    b"private",
-    b"protected",
-    b"public",
-    b"return",
-    b"short",
-    b"static",
-    b"strictfp",
-    b"super",
-    b"switch",
-    b"synchronized",
-    b"this",
-    b"throw",
-    b"throws",
-    b"transient",
-    b"try",
-    b"void",
-    b"volatile",
-    b"while",
-    b"true",
-    b"false",
-    b"null",
-];
+ghost use Rattle.px_job.specs.Reserved.{is_part_word};
 
 const PART_WORDS: [&[u8]; 3] = [b"part", b"app", b"db"];
-
-/// Whether the word is no identifier for its meaning in Java.
-pub(crate) fn is_reserved(word: &[u8]) -> bool
-    ensures { result ≡ is_reserved word.now }
-{
-    is_among(&RESERVED, word)
-}
 
 /// Whether lines that begin with the word aren't built yet.
 pub(crate) fn is_part_word(word: &[u8]) -> bool

@@ -11,8 +11,8 @@ use crate::cells::read_cells;
 use crate::job::{JobCode, Row};
 use crate::judge::Refusal;
 use crate::keys::Rows;
-use crate::names::is_name;
 use crate::words::split_word;
+use px_lex::is_identifier;
 use px_value::Table;
 use sqlite_items::at;
 use std::alloc::Global;
@@ -35,7 +35,7 @@ pub(crate) fn judge_row(
     let Some(count) = count_values(rest) else {
         return Err(Refusal::Breaks(JobCode::J1));
     };
-    if count == 0 || !is_name(name) {
+    if count == 0 || !is_identifier(name) {
         return Err(Refusal::Breaks(JobCode::J1));
     }
     make_row(alloc, tables, rows, name, count, rest)

@@ -9,3 +9,4 @@ pub mod Longest
 pub mod Spelled
 pub mod FirstPieces
 pub mod OneCut
+pub mod Identifiers

@@ -7,13 +7,11 @@ use Rattle.px_lex.specs.declared.token.TokenKind.TheVariants.{Id, Key, Number, S
 use Rattle.px_lex.specs.declared.piece.Piece.{Piece}
 use Rattle.px_lex.specs.declared.piece.Piece.TheVariants.{Between, Token}
 use Rattle.px_lex.specs.Keywords.{is_reserved}
+pub use Rattle.px_lex.specs.Names.{is_word_byte}
 use Rattle.px_lex.specs.Pieces.{is_blank, size_of}
 use Rattle.px_lex.specs.declared.token.Token.{Token as TokenData}
 use Rattle.px_lex.specs.Cutting.{token_of, shown, lines_in}
 use Rattle.px_lex.specs.Scanning.{is_letter, is_digit, is_legal}
-
-abbrev pub is_word_byte : ℕ → Bool
-is_word_byte b = is_letter b || is_digit b
 
 -- a letter, `_` or `$`, and behind it such and digits
 abbrev pub IsWord : List ℕ → Type 0

@@ -1,5 +1,6 @@
 pub mod Scanning
 pub mod Keywords
+pub mod Names
 pub mod Pieces
 pub mod Ahead
 pub mod Cutting

@@ -5,7 +5,7 @@ ghost use Rattle.std.specs.Str.{bytes_eq};
 ghost use Rattle.px_lex.specs.Keywords.{is_reserved};
 
 /// The keywords of Java, and `true`, `false` and `null`.
-pub const RESERVED: [&[u8]; 53] = [
+const RESERVED: [&[u8]; 53] = [
     b"abstract",
     b"assert",
     b"boolean",

@@ -6,6 +6,7 @@ mod keyword;
 pub mod law;
 mod lexeme;
 mod lexer;
+mod names;
 mod piece;
 mod scan;
 mod text;
@@ -14,8 +15,10 @@ pub mod tree;
 mod unbuilt;
 mod word;
 
+pub use keyword::is_reserved;
 pub use lexeme::{Lexeme, Word};
 pub use lexer::lex;
+pub use names::{is_identifier, is_word};
 pub use text::spelling;
 pub use token::{Token, TokenKind};
 pub use unbuilt::first_unbuilt;

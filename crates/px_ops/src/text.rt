@@ -6,10 +6,8 @@ ghost use Rattle.px_ops.specs.Applying.{ComesTo};
 
 use crate::error::OpError;
 use itoa::{Buffer, Integer};
-use px_value::{Text, Thrown, Value};
+use px_value::{MAX_TEXT, Text, Thrown, Value};
 use std::alloc::{AllocError, Global};
-
-const MAX_TEXT: usize = 500;
 
 fn push_number<I: Integer>(text: &mut Vec<u8>, number: I) -> Result<(), AllocError>
     ensures { OnOk result (text.new.items ≡ text.old.items ++ I.text number) }

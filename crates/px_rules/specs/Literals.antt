@@ -1,11 +1,8 @@
 -- Literals (JLS 3.10.1, 3.10.5).
 use Rattle.std.specs.Prelude.{ℕ, ◌+◌, ◌-◌, ◌*◌, Bool, true, false, List, [], ◌∷◌, nat_le}
+pub use Rattle.px_value.specs.Limits.{max_text}
 use Rattle.px_facts.specs.declared.types.Ty.{Ty}
 use Rattle.px_facts.specs.declared.types.Ty.TheVariants.{Int, Long}
-
--- the bytes that a string literal may give
-abbrev pub max_text : ℕ
-max_text = 500
 
 -- the number that decimal digits write behind those of n
 abbrev pub decimal_value : List ℕ → ℕ → ℕ

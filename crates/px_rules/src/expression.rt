@@ -17,10 +17,9 @@ use crate::operators::{
 use crate::report::Report;
 use px_facts::{Ty, fits};
 use px_tree::{Expr, ExprForm, Name, Sign};
+use px_value::MAX_TEXT;
 use sqlite_items::Items;
 use std::alloc::{AllocError, Global};
-
-const MAX_TEXT: usize = 500;
 
 impl Context {
     /// The type of an expression. `negated` tells whether it stands right after a minus.

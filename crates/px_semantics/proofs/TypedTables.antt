@@ -1,5 +1,5 @@
 -- Tables of longs and texts answer typed, and keep such cells.
-use Rattle.std.proofs.Common.{◌≡◌, ℕ, zero, suc, ◌<◌, nat_eq, ℤ, Bool, true, false, cond, not, ◌&&◌, if◌then◌else◌, List, [], ◌∷◌, ◌++◌, length, map, filter, Option, Some, None, option_to_list, slice_get, slice_set, refl, sym, ap, ◌∙◌, subst, arith}
+use Rattle.std.proofs.Common.{◌≡◌, ℕ, zero, suc, ◌<◌, nat_eq, ℤ, Bool, true, false, cond, not, ◌&&◌, if◌then◌else◌, List, [], ◌∷◌, ◌++◌, length, map, filter, Option, Some, None, option_to_list, slice_set, refl, sym, ap, ◌∙◌, subst, arith}
 use Rattle.std.proofs.lemmas.Bool.{true≢false, eqb-true, eq-eqb}
 use Rattle.std.specs.List.{list_all}
 use Rattle.std.specs.Ordering.{int_cmp, is_eq, eq_by_cmp}
@@ -15,7 +15,7 @@ use Rattle.px_value.specs.declared.statement.Statement.TheVariants as statement
 use Rattle.px_value.specs.declared.statement.TableOp.{TableOp}
 use Rattle.px_value.specs.declared.answer.Answer.{Answer}
 use Rattle.px_value.specs.Outcome.{Outcome, Gives, Throws, Asks}
-use Rattle.px_rows.specs.Tables.{Row, Table, Tables, Place, or_empty, table_at, row_at, rows_of, put_row, with_row}
+use Rattle.px_rows.specs.Tables.{Row, Table, Tables, Place, table_at, row_at, rows_of, put_row, with_row}
 use Rattle.px_rows.specs.Means.{by_key, table_of, key_of, place_of, column_of, cells_of, rows_with, seen_by, told, answer_to, assigned, written_by, write_of, after_write, after}
 use Rattle.px_facts.specs.declared.checked.Facts.{Facts}
 use Rattle.px_semantics.specs.Asks.{by_tables}

@@ -9,6 +9,7 @@ use Rattle.px_value.specs.declared.header.Kind.{Kind}
 use Rattle.px_value.specs.declared.header.Kind.TheVariants as kind
 use Rattle.px_value.specs.declared.thrown.Thrown.{Thrown}
 use Rattle.px_value.specs.declared.thrown.Thrown.TheVariants.{NullPointerException, ArrayIndexOutOfBoundsException, NegativeArraySizeException, HeapFull, PrintsOut}
+pub use Rattle.px_value.specs.Limits.{max_prints, max_printed}
 use Rattle.px_value.specs.Heap.{cell_at, written, heap_counted, max_counted, max_elements}
 use Rattle.px_value.specs.Operators.{text_of}
 use Rattle.px_value.specs.Outcome.{Gives, Throws, ◌>>=◌, pure}
@@ -107,12 +108,6 @@ new_array site (ty.Array element) size = new_elements site element size
 new_array site _ size = pure Null
 
 -- ---- printed lines
-
-abbrev pub max_prints : ℕ
-max_prints = 1000
-
-abbrev pub max_printed : ℕ
-max_printed = 20000
 
 abbrev pub print_line : {Q W : Type 0} → Value → There Q W (Unit {0})
 print_line v = λ s.

@@ -4,6 +4,7 @@ use Rattle.px_value.specs.declared.value.Value.{Value}
 use Rattle.px_value.specs.declared.value.Value.TheVariants.{Ref}
 use Rattle.px_value.specs.declared.object.Object.{Object}
 use Rattle.px_value.specs.declared.header.Kind.TheVariants as kind
+unfoldable pub use Rattle.px_value.specs.Limits.{all_frames}
 use Rattle.px_value.specs.Outcome.{Outcome, Gives, Throws, Asks}
 use Rattle.px_facts.specs.declared.checked.Entry.{Entry}
 use Rattle.px_facts.specs.declared.checked.Facts.{Facts}
@@ -18,9 +19,6 @@ use Rattle.px_semantics.specs.Calls.{Source, calls_in}
 -- a session's first heap: one object of Main, before anything is written
 abbrev pub first_heap : Facts → List Object
 first_heap F = fresh_object (kind.Object F.main.class) 0 (map default_of (fields_of F F.main.class)) ∷ []
-
-unfoldable pub all_frames : ℕ
-all_frames = 200
 
 -- the run of a method as an entry: object 0 of the heap is `this`
 abbrev pub exec : {Q W : Type 0} → Ask Q W → Source → List Object → W → ℕ → List Value → Outcome Q (Shared W) (Option Value)

@@ -16,6 +16,7 @@ use Rattle.px_value.specs.declared.answer.Answer.TheVariants.{Rows, Count, Refus
 use Rattle.px_value.specs.Outcome.{Outcome, Gives, Throws, Asks, Run, ◌>>=◌, pure}
 use Rattle.px_facts.specs.declared.operation.Operation.{Operation}
 use Rattle.px_facts.specs.declared.checked.Facts.{Facts}
+pub use Rattle.px_value.specs.Limits.{max_operations, max_parameter, max_texts}
 use Rattle.px_semantics.specs.Run.{Shared, There, came_to}
 use Rattle.px_semantics.specs.Facts.{by_number}
 use Rattle.px_semantics.specs.Effects.{reference, read_cell, write_cell, size_value, allocate}
@@ -26,16 +27,6 @@ Ask Q W = TableOp → Run Q W Answer
 
 -- ---- what is sent
 
-abbrev pub max_operations : ℕ
-max_operations = 100
-
--- the most bytes of a text that is sent, and of all texts of an operation
-abbrev pub max_text : ℕ
-max_text = 255
-
-abbrev pub max_texts : ℕ
-max_texts = 500
-
 abbrev pub is_null : Value → Bool
 is_null Null = true
 is_null _ = false
@@ -45,7 +36,7 @@ text_size (Text bytes) = length bytes
 text_size _ = 0
 
 abbrev pub is_short : Value → Bool
-is_short v = nat_le (text_size v) max_text
+is_short v = nat_le (text_size v) max_parameter
 
 abbrev pub are_short : List Value → Bool
 are_short values = list_all is_short values && nat_le (sum_by text_size values) max_texts

@@ -4,6 +4,7 @@ use Rattle.px_value.specs.declared.value.Value.{Value}
 use Rattle.px_value.specs.declared.object.Object.{Object}
 use Rattle.px_value.specs.declared.thrown.Thrown.{Thrown}
 use Rattle.px_value.specs.declared.thrown.Thrown.TheVariants.{TurnsOut}
+pub use Rattle.px_value.specs.Limits.{max_turns}
 use Rattle.px_value.specs.Outcome.{Gives, Throws, Run, ◌>>=◌, pure, throw, State}
 
 -- what all frames of a call share; the world W answers what the program asks of outside
@@ -41,9 +42,6 @@ gather there (r ∷ rs) = r >>= (λ a. gather (there ++ a ∷ []) rs)
 abbrev pub came_to : {Q S A : Type 0} → Result A Thrown → Run Q S A
 came_to (Ok v) = pure v
 came_to (Err t) = throw t
-
-abbrev pub max_turns : ℕ
-max_turns = 100000
 
 abbrev pub turn : {Q W : Type 0} → There Q W (Unit {0})
 turn = λ s. if nat_lt s.turns max_turns then Gives tt (record s { turns = s.turns + 1 }) else Throws TurnsOut s

@@ -5,6 +5,7 @@ use Rattle.px_value.specs.declared.value.Value.TheVariants.{Int, Long}
 use Rattle.px_value.specs.declared.op.Op.{Op}
 use Rattle.px_value.specs.declared.op.Op.TheVariants as op
 use Rattle.px_value.specs.declared.thrown.Thrown.TheVariants.{TurnsOut}
+unfoldable pub use Rattle.px_value.specs.Limits.{all_turns}
 use Rattle.px_value.specs.Operators.{apply}
 use Rattle.px_value.specs.Outcome.{Run, ◌>>=◌, pure, throw, on_shared, Flow, Goes, Returns, goes_on, in_order}
 use Rattle.px_tree.specs.declared.Expr.{Expr}
@@ -45,10 +46,6 @@ one ty.Long = Long (pos 1)
 one _ = Int (pos 1)
 
 -- ---- loops
-
--- one more than there can be turns in a call
-unfoldable pub all_turns : ℕ
-all_turns = 100001
 
 -- A loop of at most so many turns. Each test is counted after it was evaluated (JLS 14.12, 14.14.1).
 unfoldable pub loop : {Q W : Type 0} → Here Q W Value → Does Q W → ℕ → Does Q W

@@ -1,6 +1,6 @@
 -- What the calls of a job keep.
-use Rattle.std.proofs.Common.{◌≡◌, ℕ, ◌+◌, ◌==◌, nat_le, Bool, true, false, not, ◌&&◌, List, [], ◌∷◌, ◌++◌, length, slice_get, slice_index, Option, Some, None, IfSome, Result, Ok, Err, IfOk, if◌then◌else◌, refl, codes}
-use Rattle.std.specs.List.{AllByRecursion, list_any, list_all}
+use Rattle.std.proofs.Common.{◌≡◌, ℕ, ◌==◌, nat_le, Bool, true, false, not, ◌&&◌, List, [], ◌∷◌, ◌++◌, length, slice_get, slice_index, Option, Some, None, IfSome, Result, Ok, Err, if◌then◌else◌, refl, codes}
+use Rattle.std.specs.List.{AllByRecursion, list_all}
 use Rattle.std.specs.Option.{option_map, option_and_then}
 use Rattle.std.specs.Str.{bytes_eq}
 use Rattle.px_outside.specs.Numbers.{i64_of}
@@ -10,9 +10,10 @@ use Rattle.px_value.specs.declared.value.Value.{Value}
 use Rattle.px_value.specs.declared.value.Value.TheVariants as values
 use Rattle.px_types.specs.declared.checked.Entry.{Entry}
 use Rattle.px_split_job.specs.Places.{place_of}
-use Rattle.px_split_job.specs.Names.{is_name}
+use Rattle.px_lex.specs.Names.{is_identifier}
 use Rattle.px_split_job.specs.Texts.{text_of}
-use Rattle.px_split_job.specs.Arguments.{is_digits, is_value, is_null, bool_of, int_from, short_text, max_text, argument_of, arguments_of, with_argument}
+use Rattle.px_value.specs.Limits.{max_text}
+use Rattle.px_split_job.specs.Arguments.{is_digits, is_value, is_null, bool_of, int_from, short_text, argument_of, arguments_of, with_argument}
 use Rattle.px_split_job.specs.Calls.{max_calls, is_session, call_with, call_at, call_to, call_of, judged_call, judged_words}
 use Rattle.px_split_job.specs.Fitting.{has_type, HaveTypes, IsFitting}
 use Rattle.px_split_job.specs.declared.job.Call.{Call}
@@ -74,7 +75,7 @@ call_fits : (entries : List Entry) (calls : ℕ) (words : List (List ℕ)) → F
 call_fits entries calls [] = tt
 call_fits entries calls (session ∷ []) = tt
 call_fits entries calls (session ∷ name ∷ values) =
-    elim (not (is_digits session && is_name name && list_all is_value values)) as (λ b. Fits entries (if b then Err J1 else if is_session session then call_of entries calls name values else Err J5)) [
+    elim (not (is_digits session && is_identifier name && list_all is_value values)) as (λ b. Fits entries (if b then Err J1 else if is_session session then call_of entries calls name values else Err J5)) [
       | true ↦ tt
       | false ↦ elim (is_session session) as (λ b. Fits entries (if b then call_of entries calls name values else Err J5)) [ true ↦ to_fits entries calls values (place_of name entries) | false ↦ tt ]
     ]

@@ -10,7 +10,7 @@ use Rattle.px_code.specs.declared.side.Side.{Side}
 use Rattle.px_code.specs.declared.side.Side.TheVariants.{App, Db}
 use Rattle.px_split_job.specs.Lines.{lines_of}
 use Rattle.px_split_job.specs.Words.{words_of}
-use Rattle.px_split_job.specs.Names.{is_name}
+use Rattle.px_lex.specs.Names.{is_identifier}
 use Rattle.px_split_job.specs.Arguments.{is_digits}
 use Rattle.px_split_job.specs.Calls.{judged_words}
 use Rattle.px_split_job.specs.Selecting.{is_selector, selected, with_side, with_sides}
@@ -62,7 +62,7 @@ part_keeps entries code draft [] fits = tt
 part_keeps entries code draft (name ∷ []) fits = tt
 part_keeps entries code draft (name ∷ upto ∷ []) fits = tt
 part_keeps entries code draft (name ∷ upto ∷ number ∷ []) fits =
-    elim (is_name name && bytes_eq upto (codes "upto") && is_digits number) as (λ b. Keeps entries code (if b then part_upto code draft name (u64_of number) else Err J1)) [ true ↦ upto_keeps entries code draft name (u64_of number) fits | false ↦ tt ]
+    elim (is_identifier name && bytes_eq upto (codes "upto") && is_digits number) as (λ b. Keeps entries code (if b then part_upto code draft name (u64_of number) else Err J1)) [ true ↦ upto_keeps entries code draft name (u64_of number) fits | false ↦ tt ]
 part_keeps entries code draft (name ∷ upto ∷ number ∷ more ∷ words) fits = tt
 
 of_keeps : (entries : List Entry) (code : Code) (draft : Draft) (side : Side) (part : Part) (numbers : Option (List ℕ)) → AllByRecursion (IsFitting entries) draft.calls → PlacesNodes code (Some part) → Keeps entries code (side_of draft side part numbers)

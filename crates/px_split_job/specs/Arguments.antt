@@ -6,6 +6,7 @@ use Rattle.std.specs.Char.{is_ascii_digit}
 use Rattle.std.specs.Str.{bytes_eq}
 use Rattle.std.specs.Str.Parse.{starts_with_minus}
 use Rattle.px_outside.specs.Numbers.{i64_of}
+use Rattle.px_value.specs.Limits.{max_text}
 use Rattle.px_value.specs.declared.ty.Ty.{Ty}
 use Rattle.px_value.specs.declared.ty.Ty.TheVariants as types
 use Rattle.px_value.specs.declared.value.Value.{Value}
@@ -40,10 +41,6 @@ values_counted words = if list_all is_value words then Some (length words) else 
 abbrev pub int_from : ℤ → Option ℤ
 int_from (pos n) = if nat_lt n (2 ^ 31) then Some (pos n) else None
 int_from (negsuc n) = if nat_lt n (2 ^ 31) then Some (negsuc n) else None
-
--- the most bytes of a text
-abbrev pub max_text : ℕ
-max_text = 500
 
 abbrev pub short_text : List ℕ → Option (List ℕ)
 short_text text = if nat_le (length text) max_text then Some text else None

@@ -7,7 +7,7 @@ use Rattle.px_value.specs.declared.value.Value.{Value}
 use Rattle.px_types.specs.declared.checked.Entry.{Entry}
 use Rattle.px_split_job.specs.Words.{words_of}
 use Rattle.px_split_job.specs.Places.{place_of}
-use Rattle.px_split_job.specs.Names.{is_name}
+use Rattle.px_lex.specs.Names.{is_identifier}
 use Rattle.px_split_job.specs.Arguments.{is_digits, is_value, arguments_of}
 use Rattle.px_split_job.specs.declared.job.Call.{Call}
 use Rattle.px_split_job.specs.declared.calls.Refusal.{Refusal}
@@ -41,7 +41,7 @@ call_of entries calls name words = call_to entries calls words (place_of name en
 
 -- the words behind `call`: a session, an entry and its arguments
 abbrev pub judged_call : List Entry → ℕ → List (List ℕ) → Result (Option Call) JobCode
-judged_call entries calls (session ∷ name ∷ values) = if not (is_digits session && is_name name && list_all is_value values) then Err J1 else if is_session session then call_of entries calls name values else Err J5
+judged_call entries calls (session ∷ name ∷ values) = if not (is_digits session && is_identifier name && list_all is_value values) then Err J1 else if is_session session then call_of entries calls name values else Err J5
 judged_call entries calls _ = Err J1
 
 -- the call that the words of a line give behind so many calls, or none for a comment, or the smallest code of a rule that they break

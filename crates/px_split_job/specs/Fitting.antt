@@ -7,7 +7,7 @@ use Rattle.px_value.specs.declared.value.Value.{Value}
 use Rattle.px_value.specs.declared.value.Value.TheVariants as values
 use Rattle.px_types.specs.declared.checked.Entry.{Entry}
 use Rattle.px_code.specs.declared.code.Code.{Code}
-use Rattle.px_split_job.specs.Arguments.{max_text}
+use Rattle.px_value.specs.Limits.{max_text}
 use Rattle.px_split_job.specs.SplitJobs.{split_job_of}
 use Rattle.px_split_job.specs.declared.job.Call.{Call}
 use Rattle.px_split_job.specs.declared.job.SplitJob.{SplitJob}

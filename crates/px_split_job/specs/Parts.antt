@@ -9,7 +9,7 @@ use Rattle.px_code.specs.declared.node.Node.{Node}
 use Rattle.px_code.specs.declared.side.Side.{Side}
 use Rattle.px_code.specs.declared.side.Side.TheVariants.{App, Db}
 use Rattle.px_split_job.specs.Words.{words_of}
-use Rattle.px_split_job.specs.Names.{is_name}
+use Rattle.px_lex.specs.Names.{is_identifier}
 use Rattle.px_split_job.specs.Arguments.{is_digits}
 use Rattle.px_split_job.specs.Calls.{judged_words}
 use Rattle.px_split_job.specs.Selecting.{is_selector, selected, with_sides}
@@ -41,7 +41,7 @@ part_upto code draft name (Some upto) = if nat_lt full upto then Err J4 else if 
 
 -- the words behind `part`: a name, `upto` and a number
 abbrev pub part_line : Code → Draft → List (List ℕ) → Result Draft JobCode
-part_line code draft (name ∷ upto ∷ number ∷ []) = if is_name name && bytes_eq upto (codes "upto") && is_digits number then part_upto code draft name (u64_of number) else Err J1
+part_line code draft (name ∷ upto ∷ number ∷ []) = if is_identifier name && bytes_eq upto (codes "upto") && is_digits number then part_upto code draft name (u64_of number) else Err J1
 part_line code draft _ = Err J1
 
 -- ---- sides

@@ -10,8 +10,8 @@ ghost use Rattle.px_split_job.specs.Calls.{max_calls, is_session, call_of, call_
 use crate::arguments::{count_values, is_digits, read_arguments};
 use crate::entries::Entries;
 use crate::job::{Call, JobCode};
-use crate::names::is_name;
 use crate::words::split_word;
+use px_lex::is_identifier;
 use px_outside::read_u64;
 use sqlite_items::at;
 use std::alloc::{AllocError, Global};
@@ -98,7 +98,7 @@ fn judge_call(
     let Some((name, rest)) = split_word(rest) else {
         return Err(Refusal::Breaks(JobCode::J1));
     };
-    if !is_digits(session) || !is_name(name) {
+    if !is_digits(session) || !is_identifier(name) {
         return Err(Refusal::Breaks(JobCode::J1));
     }
     let Some(count) = count_values(rest) else {

@@ -12,9 +12,9 @@ use crate::draft::Draft;
 use crate::entries::Entries;
 use crate::index::{Index, is_selector};
 use crate::job::{JobCode, Part};
-use crate::names::is_name;
 use crate::words::split_word;
 use px_code::{Code, Node, Placement, Side};
+use px_lex::is_identifier;
 use px_outside::read_u64;
 use px_value::Text;
 use sqlite_items::Items;
@@ -89,7 +89,7 @@ fn read_part(alloc: Global, code: &Code, draft: Draft, line: &[u8]) -> Result<Dr
     if split_word(rest).is_some() {
         return Err(Refusal::Breaks(JobCode::J1));
     }
-    if !is_name(name) || upto != b"upto".as_slice() || !is_digits(number) {
+    if !is_identifier(name) || upto != b"upto".as_slice() || !is_digits(number) {
         return Err(Refusal::Breaks(JobCode::J1));
     }
     begin_part(alloc, code, draft, name, read_u64(number))

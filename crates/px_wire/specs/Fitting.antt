@@ -16,11 +16,9 @@ use Rattle.px_wire.specs.declared.transfer.Transfer.{Transfer as TransferData}
 use Rattle.px_wire.specs.declared.message.Message.{Message}
 use Rattle.px_wire.specs.declared.message.Message.TheVariants.{Transfer, Commit}
 use Rattle.px_wire.specs.Order.{AreInOrder, slot_place, cell_place}
+pub use Rattle.px_value.specs.Limits.{max_text}
 
 -- ---- what has a spelling
-
-abbrev pub max_text : ℕ
-max_text = 500
 
 pub record IsShortAscii (text : List ℕ) : Type 0 where
   pub short : length text ≤ max_text

@@ -8,11 +8,8 @@ ghost use Rattle.px_wire.specs.Reading.{Gives, is_text, text_at};
 
 use crate::number::{put_u16, take_u16};
 use crate::unread::Unread;
-use px_value::Text;
+use px_value::{MAX_TEXT, Text};
 use std::alloc::{AllocError, Global};
-
-/// The most bytes of a text.
-const MAX_TEXT: usize = 500;
 
 pub(crate) fn put_text(out: &mut Vec<u8>, text: &Text) -> Result<(), AllocError>
     requires { IsShortAscii text.now }
