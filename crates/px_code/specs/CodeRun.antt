@@ -82,7 +82,7 @@ result_of (Returns v) = v
 abbrev pub leaves_frame : {Q L G : Type 0} → Outcome Q (State L G) (Flow Value) → Outcome Q G (Option Value)
 leaves_frame (Gives f s) = Gives (result_of f) s.shared
 leaves_frame (Throws t s) = Throws t s.shared
-leaves_frame (Asks q) = Asks q
+leaves_frame (Asks q s) = Asks q s.shared
 
 -- methods are numbered from 1
 abbrev pub method_at : List Method → ℕ → Option Method

@@ -56,8 +56,8 @@ pub record IsInput (code : Code) (heap : List Object) (number : ℕ) (args : Lis
 abbrev pub SameEnd : CodeOutcome → CodeOutcome → Type 0
 SameEnd (Gives v s) (Gives w t) = (v ≡ w) × (s.shared.heap ≡ t.shared.heap)
 SameEnd (Throws x s) (Throws y t) = x ≡ y
-SameEnd (Asks q) o = absurd q
-SameEnd o (Asks q) = absurd q
+SameEnd (Asks q z) o = absurd q
+SameEnd o (Asks q z) = absurd q
 SameEnd _ _ = ⊥
 
 -- ---- blocks, one after the other
@@ -88,7 +88,7 @@ pub record RunsAs (plan : Plan) (begin : Machine) (method : ℕ) (heap : List Ob
 abbrev pub BlocksRun : Plan → Machine → ℕ → CodeOutcome → Type 0
 BlocksRun plan begin method (Gives v s) = RunsAs plan begin method s.shared.heap s.ran Finished (unwrap_or v Null)
 BlocksRun plan begin method (Throws t s) = RunsAs plan begin method s.shared.heap s.ran (Fell t) Null
-BlocksRun plan begin method (Asks q) = absurd q
+BlocksRun plan begin method (Asks q z) = absurd q
 
 -- ---- what sides keep
 
@@ -115,7 +115,7 @@ ReadsKept plan heap r = AllByRecursion (IsKeptCell plan heap (side_of plan.place
 abbrev pub AllReadsKept : Plan → CodeOutcome → Type 0
 AllReadsKept plan (Gives v s) = AllByRecursion (ReadsKept plan s.shared.heap) s.ran
 AllReadsKept plan (Throws t s) = AllByRecursion (ReadsKept plan s.shared.heap) s.ran
-AllReadsKept plan (Asks q) = absurd q
+AllReadsKept plan (Asks q z) = absurd q
 
 -- ---- a sound plan
 

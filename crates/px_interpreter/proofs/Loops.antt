@@ -15,12 +15,12 @@ use Rattle.px_interpreter.specs.Parts.{Part, holds, chosen, round, then_last}
 in_turn : {A B C : Type 0} (o : Ending Here A) (f : A → Run ⊥ Here B) (g : B → Run ⊥ Here C) → then_run (then_run o f) g ≡ then_run o (λ a s. then_run (f a s) g)
 in_turn (Gives a s) f g = refl
 in_turn (Throws t s) f g = refl
-in_turn (Asks q) f g = refl
+in_turn (Asks q z) f g = refl
 
 alike : {A B : Type 0} (o : Ending Here A) (f g : A → Run ⊥ Here B) → ((a : A) (s : Here) → f a s ≡ g a s) → then_run o f ≡ then_run o g
 alike (Gives a s) f g h = h a s
 alike (Throws t s) f g h = refl
-alike (Asks q) f g h = refl
+alike (Asks q z) f g h = refl
 
 -- what follows a test that was counted
 abbrev pub again : Part Value → Part (Flow Value) → ℕ → Bool → Part (Flow Value)
@@ -61,7 +61,7 @@ after_flow : (o : Ending Here (Flow Value)) (f g : Part (Flow Value)) → then_r
 after_flow (Gives Goes s) f g = refl
 after_flow (Gives (Returns v) s) f g = refl
 after_flow (Throws t s) f g = refl
-after_flow (Asks q) f g = refl
+after_flow (Asks q z) f g = refl
 
 -- a turn is its body, and then what stands before the next one
 pub round_is : (a : Around) (body : Stmt) (last : Option Stmt) (g : Part (Flow Value)) (s : Here) → then_run (round a body last s) (goes_on g) ≡ then_run (does a body s) (goes_on (λ t. then_run (then_last a last t) (goes_on g)))

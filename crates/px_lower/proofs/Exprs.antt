@@ -205,7 +205,7 @@ module _ (Q W : Type 0) (P : Checked) (c0 : Target W) where
   then_pure : (r : V) → then_run r (λ v. pure v) ≡ r
   then_pure (Gives v s) = refl
   then_pure (Throws t s) = refl
-  then_pure (Asks q) = refl
+  then_pure (Asks q z) = refl
 
   pub gains_from : (r r' : Here Q W Value) (l : Lowers) → ((s : Source W) → r' s ≡ r s) → Gains r l → Gains r' l
   gains_from r r' l e h = record { grown = h.grown; runs = λ o s c q a. subst (λ (z : V). Has o s c z (l o).value.had (l o).out) (sym (e s)) (h.runs o s c q a) }

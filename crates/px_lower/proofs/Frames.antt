@@ -72,14 +72,14 @@ module _ (Q W : Type 0) (P : Checked) where
   left_as_is o1 c0 (Gives Goes s) p m = ap (λ (z : Shared W). Gives None z) (sym m.2.shared) ∙ ap (λ (x : Ran Q W). untraced (code_leaves x)) (sym m.1)
   left_as_is o1 c0 (Gives (Returns v) s) p m = ap (λ (z : Shared W). Gives v z) (sym m.2) ∙ ap (λ (x : Ran Q W). untraced (code_leaves x)) (sym m.1)
   left_as_is o1 c0 (Throws t s) p m = ap (λ (z : Shared W). Throws t z) (sym m.2) ∙ ap (λ (x : Ran Q W). untraced (code_leaves x)) (sym m.1)
-  left_as_is o1 c0 (Asks q) p m = ap (λ (x : Ran Q W). untraced (code_leaves x)) (sym m)
+  left_as_is o1 c0 (Asks q s) p m = ap (λ (z : Shared W). Asks q z) (sym m.2) ∙ ap (λ (x : Ran Q W). untraced (code_leaves x)) (sym m.1)
 
   -- a return behind a body changes nothing
   left_then : (p : Ran Q W) (node : ℕ) → untraced (code_leaves (then_run p (goes_on (word_run node (w.Return None))))) ≡ untraced (code_leaves p)
   left_then (Gives Goes c) node = refl
   left_then (Gives (Returns v) c) node = refl
   left_then (Throws t c) node = refl
-  left_then (Asks q) node = refl
+  left_then (Asks q z) node = refl
 
   left_ended : (m : Method) (b : Bool) (o : Draft) (c : Target W) → untraced (code_leaves (here c (ended P m b o))) ≡ untraced (code_leaves (here c o))
   left_ended m true o c = ap (λ (x : Ran Q W). untraced (code_leaves x)) (emitted_run Q W P (w.Return None) m.name.token (ReachedEnd o.method) o c) ∙ left_then (here c o) (length o.nodes + 1)

@@ -29,13 +29,13 @@ module _ (Q W : Type 0) where
   ends (Gives Goes d) = refl
   ends (Gives (Returns v) d) = refl
   ends (Throws t d) = refl
-  ends (Asks q) = refl
+  ends (Asks q z) = refl
 
   pub grouped : (o : Ran) (g h : Code) → then_run (then_run o (goes_on g)) (goes_on h) ≡ then_run o (goes_on (λ d. then_run (g d) (goes_on h)))
   grouped (Gives Goes d) g h = refl
   grouped (Gives (Returns v) d) g h = refl
   grouped (Throws t d) g h = refl
-  grouped (Asks q) g h = refl
+  grouped (Asks q z) g h = refl
 
   pub more_none : (p : Ran) → More p p
   more_none p = (pure Goes, sym (ends p))
@@ -52,7 +52,7 @@ module _ (Q W : Type 0) where
   append_by xs ys h (Gives Goes d) = h d
   append_by xs ys h (Gives (Returns v) d) = refl
   append_by xs ys h (Throws t d) = refl
-  append_by xs ys h (Asks q) = refl
+  append_by xs ys h (Asks q z) = refl
 
   pub run_append : (xs ys : List Tree) (c : Frame W) → run (xs ++ ys) c ≡ then_run (run xs c) (goes_on (run ys))
   run_append [] ys c = refl

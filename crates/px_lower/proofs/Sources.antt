@@ -104,7 +104,7 @@ module _ (Q W : Type 0) (P : Checked) (c0 : Target W) where
   then_pure : (r : V) → then_run r (λ v. pure v) ≡ r
   then_pure (Gives v s) = refl
   then_pure (Throws t s) = refl
-  then_pure (Asks q) = refl
+  then_pure (Asks q z) = refl
 
   minus_gains : (n : Option Value) (r : Here Q W Value) (l : Lowers) (id token : ℕ) → ((v : Value) → n ≡ Some v → (s : Source W) → r s ≡ Gives v s) → Gains Q W P c0 r l → Gains Q W P c0 (r >>= (λ v. came_to (apply op.Neg v v))) (prefix_low P (literal_behind sign.Minus n) (Some op.Neg) l id token)
   minus_gains (Some v) r l id token f h =

@@ -128,7 +128,7 @@ module _ (Q W : Type 0) (P : Checked) (c0 : Target W) where
   )
   closed_after n m o (Gives (Returns v) s) e h = h
   closed_after n m o (Throws t s) e h = h
-  closed_after n m o (Asks q) e h = h
+  closed_after n m o (Asks q z) e h = h
 
   block_does : (zs : Items) → Does (scoped (in_order (runs_of zs))) (block_low (codes_of zs)) (joined (types_of zs))
   block_does zs =

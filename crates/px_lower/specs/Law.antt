@@ -21,7 +21,7 @@ use Rattle.px_lower.specs.Programs.{lowered}
 abbrev pub untraced : {Q W A : Type 0} → Outcome Q (Traced W) A → Outcome Q (Shared W) A
 untraced (Gives a g) = Gives a g.shared
 untraced (Throws t g) = Throws t g.shared
-untraced (Asks q) = Asks q
+untraced (Asks q g) = Asks q g.shared
 
 -- as many arguments as parameters, where there is such a method
 abbrev pub Takes : Option Method → List Value → Type 0

@@ -41,7 +41,7 @@ left_as : (heap : List Object) (o : CodeOutcome) → left_by (ended heap tt (unt
 left_as heap (Gives None s) = refl
 left_as heap (Gives (Some v) s) = refl
 left_as heap (Throws t s) = refl
-left_as heap (Asks q) = absurd q
+left_as heap (Asks q s) = absurd q
 
 same_call : (P : Checked) (heap : List Object) (c : Call) → is_main P.program.classes ≡ true → IsTaken (methods_of P.program) c → by_code (lowered P) heap c ≡ by_source P heap c
 unfolding call_of

@@ -135,7 +135,7 @@ meant {Q} {W} F = fold-Expr (ℕ → Meant Q W) (Meant Q W) (expr_step F) number
 abbrev pub leaves : {Q W A : Type 0} → ℕ → Outcome Q (Frame W) A → Outcome Q (Frame W) A
 leaves n (Gives a s) = Gives a (with_slots s (take n s.locals.slots))
 leaves n (Throws t s) = Throws t s
-leaves n (Asks q) = Asks q
+leaves n (Asks q s) = Asks q s
 
 abbrev pub scoped : {Q W A : Type 0} → Here Q W A → Here Q W A
 scoped r = λ s. leaves (length s.locals.slots) (r s)
@@ -189,7 +189,7 @@ result_of (Returns v) = v
 abbrev pub leaves_frame : {Q L G : Type 0} → Outcome Q (State L G) (Flow Value) → Outcome Q G (Option Value)
 leaves_frame (Gives f s) = Gives (result_of f) s.shared
 leaves_frame (Throws t s) = Throws t s.shared
-leaves_frame (Asks q) = Asks q
+leaves_frame (Asks q s) = Asks q s.shared
 
 abbrev pub enters : {Q W : Type 0} → Facts → Option Body → List Value → Run Q (Shared W) (Option Value)
 enters F None args g = Gives None g

@@ -35,7 +35,7 @@ reply_of (Some v) = reply.Value v
 abbrev pub ended : {W : Type 0} → List Object → W → Outcome ⊥ (Shared W) (Option Value) → Called W
 ended heap world (Gives v s) = record { reply = reply_of v; heap = s.heap; world = s.world }
 ended heap world (Throws t s) = record { reply = reply.Threw t; heap = heap; world = world }
-ended heap world (Asks q) = absurd q
+ended heap world (Asks q s) = absurd q
 
 unfoldable pub call_of : {W : Type 0} → Meaning → List Object → W → ℕ → List Value → Called W
 call_of P heap world method args = ended heap world (exec P.facts P.bodies heap world method args)

@@ -57,7 +57,7 @@ Body = Outcome ⊥ (Frames (Unit {0})) (Flow Value)
 abbrev pub Does : List Block → Block → Stepped → List Ran → Body → Type 0
 Does blocks b after prior (Gives f s) = Done blocks b after prior Finished s.shared.shared.heap s.shared.ran (unwrap_or (result_of f) Null)
 Does blocks b after prior (Throws t s) = Done blocks b after prior (Fell t) s.shared.shared.heap s.shared.ran Null
-Does blocks b after prior (Asks q) = absurd q
+Does blocks b after prior (Asks q z) = absurd q
 
 done_more : (blocks : List Block) (b : Block) (first : List Ran) (after : Stepped) (prior : List Ran) (ending : Ending) (heap : List Object) (all : List Ran) (reply : Value) → Done blocks b after (prior ++ first) ending heap all reply → Done blocks b (also_ran first after) prior ending heap all reply
 done_more blocks b first after prior ending heap all reply d = record {
@@ -72,7 +72,7 @@ done_more blocks b first after prior ending heap all reply d = record {
 more : (blocks : List Block) (b : Block) (first : List Ran) (after : Stepped) (prior : List Ran) (o : Body) → Does blocks b after (prior ++ first) o → Does blocks b (also_ran first after) prior o
 more blocks b first after prior (Gives f s) d = done_more blocks b first after prior Finished s.shared.shared.heap s.shared.ran (unwrap_or (result_of f) Null) d
 more blocks b first after prior (Throws t s) d = done_more blocks b first after prior (Fell t) s.shared.shared.heap s.shared.ran Null d
-more blocks b first after prior (Asks q) d = absurd q
+more blocks b first after prior (Asks q z) d = absurd q
 
 -- where a block is done, the next one goes on
 done_next : (blocks : List Block) (b c : Block) (n : ℕ) (m : Machine) (prior : List Ran) (ending : Ending) (heap : List Object) (all : List Ran) (reply : Value) → exit_to b.exit ≡ n → block_at blocks n ≡ Some c → Done blocks c (steps c.statements m) prior ending heap all reply → Done blocks b (steps [] m) prior ending heap all reply
@@ -88,7 +88,7 @@ done_next blocks b c n m prior ending heap all reply exit is d = record {
 pub does_next : (blocks : List Block) (b c : Block) (n : ℕ) (m : Machine) (prior : List Ran) (o : Body) → exit_to b.exit ≡ n → block_at blocks n ≡ Some c → Does blocks c (steps c.statements m) prior o → Does blocks b (steps [] m) prior o
 does_next blocks b c n m prior (Gives f s) exit is d = done_next blocks b c n m prior Finished s.shared.shared.heap s.shared.ran (unwrap_or (result_of f) Null) exit is d
 does_next blocks b c n m prior (Throws t s) exit is d = done_next blocks b c n m prior (Fell t) s.shared.shared.heap s.shared.ran Null exit is d
-does_next blocks b c n m prior (Asks q) exit is d = absurd q
+does_next blocks b c n m prior (Asks q z) exit is d = absurd q
 
 -- ---- the machine of a call
 

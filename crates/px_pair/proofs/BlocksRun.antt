@@ -83,7 +83,7 @@ module _ (plan : Plan) (heap : List Object) (number : ℕ) (args : List Value) w
     heap_is = d.heap_is;
     reply_is = d.reply_is;
   }
-  finish n b (Asks q) at is d = absurd q
+  finish n b (Asks q z) at is d = absurd q
 
   module _ (are : AreBlocks plan.code plan.placement.sides plan.blocks) where
     exits : (n : ℕ) (b : Block) → block_at all_blocks n ≡ Some b → b.exit ≡ exit_if (block_returns b.statements) (suc n)

@@ -37,7 +37,7 @@ use Rattle.px_pair.proofs.Servable.{word_of, names_classes, good_blocks, all_ret
 same_end : (o : CodeOutcome) → SameEnd o o
 same_end (Gives x s) = (refl, refl)
 same_end (Throws t s) = refl
-same_end (Asks q) = absurd q
+same_end (Asks q z) = absurd q
 
 -- what is read is a part that the objects of its site have
 has_part : (code : Code) (m n : ℕ) (word : Word) (site : ℕ) (part : Part) → IsWordOf code n word → ReadsPart code m word site part → KindHasPart code (site_kind code site) part
@@ -96,7 +96,7 @@ module _ (plan : Plan) (servable : IsServable plan) (keep : IsKeep plan.code pla
     reads_of : (o : CodeOutcome) → BlocksRun plan (entered plan.code heap method args) method o → AllReadsKept plan o
     reads_of (Gives x s) run = end_kept s.shared.heap run.last s.ran _ run.runs run.heap_is
     reads_of (Throws t s) run = end_kept s.shared.heap run.last s.ran _ run.runs run.heap_is
-    reads_of (Asks q) run = absurd q
+    reads_of (Asks q z) run = absurd q
 
     reads_kept : AllReadsKept plan (run_of plan.code heap method args)
     reads_kept = reads_of (run_of plan.code heap method args) as_code

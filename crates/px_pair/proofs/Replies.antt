@@ -37,7 +37,7 @@ abbrev Leaves : Option Ty → BodyOutcome → Type 0
 Leaves gives (Gives Goes s) = ⊥
 Leaves gives (Gives (Returns v) s) = is_some v ≡ is_some gives
 Leaves gives (Throws t s) = Unit {0}
-Leaves gives (Asks q) = Unit {0}
+Leaves gives (Asks q z) = Unit {0}
 
 given_some : (a : Option Operand) (x : Value) → is_some (given a x) ≡ is_some a
 given_some None x = refl
@@ -78,7 +78,7 @@ declared : (gives : Option Ty) (o : BodyOutcome) → Leaves gives o → (v : Opt
 declared gives (Gives Goes t) h v s e = absurd h
 declared gives (Gives (Returns x) t) h v s e = let same : x ≡ v = cc in ap (λ (y : Option Value). is_some y) (sym same) ∙ h
 declared gives (Throws t u) h v s e = cc
-declared gives (Asks q) h v s e = cc
+declared gives (Asks q z) h v s e = cc
 
 entered : (m : Method) → AllByRecursion (ReturnsAs m.gives) m.body → ends_in_return false m.body ≡ true → (args : List Value) (g : Traced (Unit {0})) (v : Option Value) (s : Traced (Unit {0})) → enters {Q = ⊥} (Some m) args g ≡ Gives v s → is_some v ≡ is_some m.gives
 entered m all ends args g v s e = let begin : InBody = record { locals = first_slots m.slots args; shared = g } in declared m.gives (body_run m.body begin) (leaves m.gives m.body all ends begin) v s e

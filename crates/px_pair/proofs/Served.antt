@@ -142,7 +142,7 @@ module _ (plan : Plan) (servable : IsServable plan) (app db one : List Object) (
             heap_is = told_run.same.heap ∙ ap (λ (m : Machine). m.heap) same.last_is ∙ run.heap_is;
             none_stale = λ events before. (fresh events before).1;
           }
-      by_outcome (Asks q) is run = absurd q
+      by_outcome (Asks q z) is run = absurd q
 
   -- a call that ended, and its commit
   ended : ending ≡ Finished → (u : Updates) → AreUpdates (Some plan) (length near.heap) near u → IsFinishedCall plan one method args story last near far u
@@ -191,7 +191,7 @@ module _ (plan : Plan) (servable : IsServable plan) (app db one : List Object) (
           let same : SameRun _ s.ran ending (Fell t) told_run.machine run.last = one_run plan.blocks.blocks (first_block plan method) begin _ s.ran ending (Fell t) told_run.machine run.last told_run.runs run.runs in
           let never : Finished ≡ Fell t = sym finishes ∙ same.ending_is in
           cc
-      by_outcome (Asks q) is run = absurd q
+      by_outcome (Asks q z) is run = absurd q
 
 by_ending : (plan : Plan) (servable : IsServable plan) (app db one : List Object) (rest : Rest plan app db one) (method : ℕ) (args : List Value) (input : IsInput plan.code one method args) (story : List Happening) (ending : Ending) (last : Side) (near far : Machine) → Talks plan App (entered plan.code app method args) (attending db) (first_block plan method) story ending last near far → IsServedCall plan one method args story ending last near far
 by_ending plan servable app db one rest method args input story Finished last near far talks = ended plan servable app db one rest method args input story Finished last near far talks refl

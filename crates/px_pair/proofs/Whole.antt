@@ -80,7 +80,7 @@ is_call plan begin method side near far heap ran that_ran ending that_ending rep
 does : (plan : Plan) (begin : Machine) (method : ℕ) (side : Side) (near far : Machine) (ran : List Ran) (ending : Ending) (o : CodeOutcome) → CallAgrees plan begin (first_block plan method) ran ending side near far → BlocksRun plan begin method o → CallDoes plan side near far ran ending o
 does plan begin method side near far ran ending (Gives x s) agrees run = is_call plan begin method side near far s.shared.heap ran s.ran ending Finished (unwrap_or x Null) agrees run
 does plan begin method side near far ran ending (Throws t s) agrees run = is_call plan begin method side near far s.shared.heap ran s.ran ending (Fell t) Null agrees run
-does plan begin method side near far ran ending (Asks q) agrees run = absurd q
+does plan begin method side near far ran ending (Asks q z) agrees run = absurd q
 
 pub method_there : (methods : List Method) (n : ℕ) (m : Method) → method_at methods n ≡ Some m → n ≤ length methods
 method_there methods zero m e = cc
@@ -152,7 +152,7 @@ commits plan begin near far method u ran (Throws t s) call run fits are = absurd
   where
     other_end : Finished ≡ Fell t → ⊥
     other_end e = cc
-commits plan begin near far method u ran (Asks q) call run fits are = absurd q
+commits plan begin near far method u ran (Asks q z) call run fits are = absurd q
 
 pub commits_as_code : CommitsAsCode
 commits_as_code plan app db one method args rest served near far ran both u are =

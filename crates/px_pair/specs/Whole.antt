@@ -43,7 +43,7 @@ pub record CallIs (plan : Plan) (side : Side) (near far : Machine) (heap : List 
 abbrev pub CallDoes : Plan → Side → Machine → Machine → List Ran → Ending → CodeOutcome → Type 0
 CallDoes plan side near far ran ending (Gives v s) = CallIs plan side near far s.shared.heap ran s.ran ending Finished (unwrap_or v Null)
 CallDoes plan side near far ran ending (Throws t s) = CallIs plan side near far s.shared.heap ran s.ran ending (Fell t) Null
-CallDoes plan side near far ran ending (Asks q) = absurd q
+CallDoes plan side near far ran ending (Asks q z) = absurd q
 
 -- From two ends that have one heap, a call does what its code does on that heap, wherever its blocks run and however control goes over.
 abbrev pub CallsDoAsCode : Type 0
@@ -63,7 +63,7 @@ pub record IsCommitted (plan : Plan) (near far : Machine) (u : Updates) (heap : 
 abbrev pub CommitsAs : Plan → Machine → Machine → Updates → List Ran → CodeOutcome → Type 0
 CommitsAs plan near far u ran (Gives v s) = IsCommitted plan near far u s.shared.heap ran s.ran (unwrap_or v Null)
 CommitsAs plan near far u ran (Throws t s) = ⊥
-CommitsAs plan near far u ran (Asks q) = absurd q
+CommitsAs plan near far u ran (Asks q z) = absurd q
 
 -- a call that ends at APP, and its commit
 abbrev pub CommitsAsCode : Type 0

@@ -11,15 +11,15 @@ use Rattle.px_semantics.specs.Laws.{AsksInOrder}
 -- ---- what is asked in order
 
 module _ (S T A B : Type 0) where
-  pub asked_by : (run : List Answer → Outcome TableOp S A) (run' : List Answer → Outcome TableOp T B) (os : List TableOp) (xs : List Answer) → ((x : List Answer) (o : TableOp) → run x ≡ Asks o → run' x ≡ Asks o) → AsksInOrder run os xs → AsksInOrder run' os xs
+  pub asked_by : (run : List Answer → Outcome TableOp S A) (run' : List Answer → Outcome TableOp T B) (os : List TableOp) (xs : List Answer) → ((x : List Answer) (o : TableOp) (s : S) → run x ≡ Asks o s → (t : T) × (run' x ≡ Asks o t)) → AsksInOrder run os xs → AsksInOrder run' os xs
   asked_by run run' [] [] k h = tt
-  asked_by run run' (o ∷ os) (a ∷ xs) k h = (k [] o h.0, asked_by (λ more. run (a ∷ more)) (λ more. run' (a ∷ more)) os xs (λ x. k (a ∷ x)) h.1)
+  asked_by run run' (o ∷ os) (a ∷ xs) k h = (k [] o h.0.0 h.0.1, asked_by (λ more. run (a ∷ more)) (λ more. run' (a ∷ more)) os xs (λ x. k (a ∷ x)) h.1)
   asked_by run run' [] (a ∷ xs) k h = h
   asked_by run run' (o ∷ os) [] k h = h
 
 module _ (S A : Type 0) where
   pub asked_then : (run run' : List Answer → Outcome TableOp S A) (os : List TableOp) (xs : List Answer) (os' : List TableOp) (xs' : List Answer) → AsksInOrder run os xs → ((more : List Answer) → run (xs ++ more) ≡ run' more) → AsksInOrder run' os' xs' → AsksInOrder run (os ++ os') (xs ++ xs')
-  asked_then run run' [] [] os' xs' h k h' = asked_by S S A A run' run os' xs' (λ x o e. k x ∙ e) h'
+  asked_then run run' [] [] os' xs' h k h' = asked_by S S A A run' run os' xs' (λ x o s e. (s, k x ∙ e)) h'
   asked_then run run' (o ∷ os) (a ∷ xs) os' xs' h k h' = (h.0, asked_then (λ more. run (a ∷ more)) run' os xs os' xs' h.1 k h')
   asked_then run run' [] (a ∷ xs) os' xs' h k h' = absurd h
   asked_then run run' (o ∷ os) [] os' xs' h k h' = absurd h
@@ -49,16 +49,18 @@ module _ (Q W : Type 0) (ask : Ask Q W) where
     pub counted : after ≡ length answers + before
     pub few : before ≤ 100 → after ≤ 100
 
-  -- it asks what is told, and then this, which isn't
-  pub record Opens (S A : Type 0) (from : W) (q : Q) (run : List Answer → Outcome TableOp S A) : Type 0 where
+  -- it asks what is told, and then this, which isn't, at this state
+  pub record Opens (S A : Type 0) (from to : W) (before after : ℕ) (q : Q) (run : List Answer → Outcome TableOp S A) (end : S) : Type 0 where
     pub operations : List TableOp
     pub answers : List Answer
-    pub to : W
+    pub mid : W
     pub operation : TableOp
-    pub told : Told operations answers from to
+    pub told : Told operations answers from mid
     pub asked : AsksInOrder run operations answers
-    pub untold : ask operation to ≡ Asks q
-    pub stops : run answers ≡ Asks operation
+    pub untold : ask operation mid ≡ Asks q to
+    pub stops : run answers ≡ Asks operation end
+    pub counted : after ≡ length answers + before + 1
+    pub few : before ≤ 100 → after ≤ 100
 
   pub reaches_now : (S A : Type 0) (w : W) (n : ℕ) (run end : List Answer → Outcome TableOp S A) → ((more : List Answer) → run more ≡ end more) → Reaches S A w w n n run end
   reaches_now S A w n run end h = record { operations = []; answers = []; told = refl; asked = tt; reached = h; counted = omega (arith); few = λ k. k }
@@ -74,40 +76,44 @@ module _ (Q W : Type 0) (ask : Ask Q W) where
     few = λ l. h.few (g.few l);
   }
 
-  pub reaches_open : (S A : Type 0) (from mid : W) (n m : ℕ) (q : Q) (run there : List Answer → Outcome TableOp S A) → Reaches S A from mid n m run there → Opens S A mid q there → Opens S A from q run
-  reaches_open S A from mid n m q run there g h = record {
+  pub reaches_open : (S A : Type 0) (from mid to : W) (n m k : ℕ) (q : Q) (run there : List Answer → Outcome TableOp S A) (end : S) → Reaches S A from mid n m run there → Opens S A mid to m k q there end → Opens S A from to n k q run end
+  reaches_open S A from mid to n m k q run there end g h = record {
     operations = g.operations ++ h.operations;
     answers = g.answers ++ h.answers;
-    to = h.to;
+    mid = h.mid;
     operation = h.operation;
-    told = told_then g.operations g.answers h.operations h.answers from mid h.to g.told h.told;
+    told = told_then g.operations g.answers h.operations h.answers from mid h.mid g.told h.told;
     asked = asked_then S A run there g.operations g.answers h.operations h.answers g.asked g.reached h.asked;
     untold = h.untold;
     stops = g.reached h.answers ∙ h.stops;
+    counted = let a = g.counted in let b = h.counted in omega (arith, length-append g.answers h.answers, a, b);
+    few = λ l. h.few (g.few l);
   }
 
-  module _ (S T A B : Type 0) (c : Outcome TableOp S A → Outcome TableOp T B) (keeps : (o : TableOp) → c (Asks o) ≡ Asks o) where
+  module _ (S T A B : Type 0) (c : Outcome TableOp S A → Outcome TableOp T B) (to_end : S → T) (keeps : (o : TableOp) (s : S) → c (Asks o s) ≡ Asks o (to_end s)) where
     pub carried : (from to : W) (n m : ℕ) (run end : List Answer → Outcome TableOp S A) → Reaches S A from to n m run end → Reaches T B from to n m (λ x. c (run x)) (λ x. c (end x))
     carried from to n m run end h = record {
       operations = h.operations;
       answers = h.answers;
       told = h.told;
-      asked = asked_by S T A B run (λ x. c (run x)) h.operations h.answers (λ x o e. ap c e ∙ keeps o) h.asked;
+      asked = asked_by S T A B run (λ x. c (run x)) h.operations h.answers (λ x o s e. (to_end s, ap c e ∙ keeps o s)) h.asked;
       reached = λ more. ap c (h.reached more);
       counted = h.counted;
       few = h.few;
     }
 
-    pub carried_open : (from : W) (q : Q) (run : List Answer → Outcome TableOp S A) → Opens S A from q run → Opens T B from q (λ x. c (run x))
-    carried_open from q run h = record {
+    pub carried_open : (from to : W) (n m : ℕ) (q : Q) (run : List Answer → Outcome TableOp S A) (end : S) → Opens S A from to n m q run end → Opens T B from to n m q (λ x. c (run x)) (to_end end)
+    carried_open from to n m q run end h = record {
       operations = h.operations;
       answers = h.answers;
-      to = h.to;
+      mid = h.mid;
       operation = h.operation;
       told = h.told;
-      asked = asked_by S T A B run (λ x. c (run x)) h.operations h.answers (λ x o e. ap c e ∙ keeps o) h.asked;
+      asked = asked_by S T A B run (λ x. c (run x)) h.operations h.answers (λ x o s e. (to_end s, ap c e ∙ keeps o s)) h.asked;
       untold = h.untold;
-      stops = ap c h.stops ∙ keeps h.operation;
+      stops = ap c h.stops ∙ keeps h.operation end;
+      counted = h.counted;
+      few = h.few;
     }
 
 -- ---- runs that go beside each other
@@ -125,7 +131,7 @@ module _ (Q W : Type 0) (ask : Ask Q W) (V : View W) where
   abbrev pub Follows : (A : Type 0) → Outcome Q V.Near A → V.Near → (List Answer → Outcome TableOp V.Far A) → Type 0
   Follows A (Gives a t) s run = Reaches Q W ask V.Far A (V.world s) (V.world t) (V.count s) (V.count t) run (λ x. Gives a (V.written t x))
   Follows A (Throws e t) s run = Reaches Q W ask V.Far A (V.world s) (V.world t) (V.count s) (V.count t) run (λ x. Throws e (V.written t x))
-  Follows A (Asks q) s run = Opens Q W ask V.Far A (V.world s) q run
+  Follows A (Asks q t) s run = Opens Q W ask V.Far A (V.world s) (V.world t) (V.count s) (V.count t) q run (V.written t [])
 
   pub record Alike (A : Type 0) (r : Run Q V.Near A) (l : Run TableOp V.Far A) : Type 0 where
     pub at : (s : V.Near) → Follows A (r s) s (λ x. l (V.written s x))
@@ -141,12 +147,12 @@ module _ (Q W : Type 0) (ask : Ask Q W) (V : View W) where
   joined : (B : Type 0) (o : Outcome Q V.Near B) (s t : V.Near) (run there : List Answer → Outcome TableOp V.Far B) → Reaches Q W ask V.Far B (V.world s) (V.world t) (V.count s) (V.count t) run there → Follows B o t there → Follows B o s run
   joined B (Gives b u) s t run there g h = reaches_then Q W ask V.Far B _ _ _ _ _ _ run there (λ x. Gives b (V.written u x)) g h
   joined B (Throws e u) s t run there g h = reaches_then Q W ask V.Far B _ _ _ _ _ _ run there (λ x. Throws e (V.written u x)) g h
-  joined B (Asks q) s t run there g h = reaches_open Q W ask V.Far B _ _ _ _ q run there g h
+  joined B (Asks q u) s t run there g h = reaches_open Q W ask V.Far B _ _ _ _ _ _ q run there (V.written u []) g h
 
   bind_at : (A B : Type 0) (o : Outcome Q V.Near A) (s : V.Near) (run : List Answer → Outcome TableOp V.Far A) (f : A → Run Q V.Near B) (g : A → Run TableOp V.Far B) → Follows A o s run → ((a : A) → Alike B (f a) (g a)) → Follows B (then_run o f) s (λ x. then_run (run x) g)
-  bind_at A B (Gives a t) s run f g h k = joined B (f a t) s t (λ x. then_run (run x) g) (λ x. g a (V.written t x)) (carried Q W ask V.Far V.Far A B (λ o. then_run o g) (λ o. refl) _ _ _ _ run (λ x. Gives a (V.written t x)) h) ((k a).at t)
-  bind_at A B (Throws e t) s run f g h k = carried Q W ask V.Far V.Far A B (λ o. then_run o g) (λ o. refl) _ _ _ _ run (λ x. Throws e (V.written t x)) h
-  bind_at A B (Asks q) s run f g h k = carried_open Q W ask V.Far V.Far A B (λ o. then_run o g) (λ o. refl) _ q run h
+  bind_at A B (Gives a t) s run f g h k = joined B (f a t) s t (λ x. then_run (run x) g) (λ x. g a (V.written t x)) (carried Q W ask V.Far V.Far A B (λ o. then_run o g) (λ u. u) (λ o u. refl) _ _ _ _ run (λ x. Gives a (V.written t x)) h) ((k a).at t)
+  bind_at A B (Throws e t) s run f g h k = carried Q W ask V.Far V.Far A B (λ o. then_run o g) (λ u. u) (λ o u. refl) _ _ _ _ run (λ x. Throws e (V.written t x)) h
+  bind_at A B (Asks q t) s run f g h k = carried_open Q W ask V.Far V.Far A B (λ o. then_run o g) (λ u. u) (λ o u. refl) _ _ _ _ q run (V.written t []) h
 
   pub bind : {A B : Type 0} {r : Run Q V.Near A} {l : Run TableOp V.Far A} {f : A → Run Q V.Near B} {g : A → Run TableOp V.Far B} → Alike A r l → ((a : A) → Alike B (f a) (g a)) → Alike B (r >>= f) (l >>= g)
   bind {A} {B} {r} {l} {f} {g} h k = record { at = λ s. bind_at A B (r s) s (λ x. l (V.written s x)) f g (h.at s) k }

@@ -25,9 +25,9 @@ use Rattle.px_semantics.proofs.FollowsHere.{frame_view, P, L, done_alike}
 
 module _ (Q W : Type 0) (ask : Ask Q W) (never : NeverThrows Q W ask) where
   leaves_at : (o : Outcome Q (Frame W) (Flow Value)) (s : Frame W) (run : List Answer → Outcome TableOp (Frame (List Answer)) (Flow Value)) → Follows Q W ask (frame_view W) (Flow Value) o s run → Follows Q W ask (shared_view W) (Option Value) (leaves_frame o) s.shared (λ x. leaves_frame (run x))
-  leaves_at (Gives flow t) s run h = carried Q W ask (Frame (List Answer)) (Shared (List Answer)) (Flow Value) (Option Value) leaves_frame (λ o. refl) _ _ _ _ run (λ x. Gives flow (record { locals = t.locals; shared = with_world t.shared x })) h
-  leaves_at (Throws e t) s run h = carried Q W ask (Frame (List Answer)) (Shared (List Answer)) (Flow Value) (Option Value) leaves_frame (λ o. refl) _ _ _ _ run (λ x. Throws e (record { locals = t.locals; shared = with_world t.shared x })) h
-  leaves_at (Asks q) s run h = carried_open Q W ask (Frame (List Answer)) (Shared (List Answer)) (Flow Value) (Option Value) leaves_frame (λ o. refl) _ q run h
+  leaves_at (Gives flow t) s run h = carried Q W ask (Frame (List Answer)) (Shared (List Answer)) (Flow Value) (Option Value) leaves_frame (λ u. u.shared) (λ o u. refl) _ _ _ _ run (λ x. Gives flow (record { locals = t.locals; shared = with_world t.shared x })) h
+  leaves_at (Throws e t) s run h = carried Q W ask (Frame (List Answer)) (Shared (List Answer)) (Flow Value) (Option Value) leaves_frame (λ u. u.shared) (λ o u. refl) _ _ _ _ run (λ x. Throws e (record { locals = t.locals; shared = with_world t.shared x })) h
+  leaves_at (Asks q t) s run h = carried_open Q W ask (Frame (List Answer)) (Shared (List Answer)) (Flow Value) (Option Value) leaves_frame (λ u. u.shared) (λ o u. refl) _ _ _ _ q run (record { locals = t.locals; shared = with_world t.shared [] }) h
 
   module _ (F : Facts) (calls : Calls Q W) (calls' : Calls TableOp (List Answer)) (calls_alike : (method : ℕ) (values : List Value) → AlikeThere Q W ask (Option Value) (calls method values) (calls' method values)) where
     enters_alike : (m : Option Method) (f : Option MethodFact) (values : List Value) → AlikeThere Q W ask (Option Value) (enters (P Q W ask never F calls calls' calls_alike) m f values) (enters (L Q W ask never F calls calls' calls_alike) m f values)

@@ -54,9 +54,9 @@ module _ (Q W : Type 0) (ask : Ask Q W) where
   came_here x = came_alike Q W ask (frame_view W) x
 
   beside_at : (A : Type 0) (s : Frame W) (o : Outcome Q (Shared W) A) (run : List Answer → Outcome TableOp (Shared (List Answer)) A) → Follows Q W ask (shared_view W) A o s.shared run → Follows Q W ask (frame_view W) A (beside s.locals o) s (λ x. beside s.locals (run x))
-  beside_at A s (Gives a t) run h = carried Q W ask (Shared (List Answer)) (Frame (List Answer)) A A (beside s.locals) (λ o. refl) _ _ _ _ run (λ x. Gives a (with_world t x)) h
-  beside_at A s (Throws e t) run h = carried Q W ask (Shared (List Answer)) (Frame (List Answer)) A A (beside s.locals) (λ o. refl) _ _ _ _ run (λ x. Throws e (with_world t x)) h
-  beside_at A s (Asks q) run h = carried_open Q W ask (Shared (List Answer)) (Frame (List Answer)) A A (beside s.locals) (λ o. refl) _ q run h
+  beside_at A s (Gives a t) run h = carried Q W ask (Shared (List Answer)) (Frame (List Answer)) A A (beside s.locals) (λ t. record { locals = s.locals; shared = t }) (λ o t. refl) _ _ _ _ run (λ x. Gives a (with_world t x)) h
+  beside_at A s (Throws e t) run h = carried Q W ask (Shared (List Answer)) (Frame (List Answer)) A A (beside s.locals) (λ t. record { locals = s.locals; shared = t }) (λ o t. refl) _ _ _ _ run (λ x. Throws e (with_world t x)) h
+  beside_at A s (Asks q t) run h = carried_open Q W ask (Shared (List Answer)) (Frame (List Answer)) A A (beside s.locals) (λ u. record { locals = s.locals; shared = u }) (λ o u. refl) _ _ _ _ q run (with_world t []) h
 
   shared_alike : {A : Type 0} {r : There Q W A} {l : There TableOp (List Answer) A} → AlikeThere Q W ask A r l → AlikeHere A (on_shared r) (on_shared l)
   shared_alike {A} {r} {l} h = record { at = λ s. beside_at A s (r s.shared) (λ x. l (with_world s.shared x)) (h.at s.shared) }

@@ -141,21 +141,23 @@ module _ (Q W : Type 0) (ask : Ask Q W) where
       operations = o ∷ [];
       answers = a ∷ [];
       told = (w, e, refl);
-      asked = (refl, tt);
+      asked = ((with_world (so_many s) [], refl), tt);
       reached = λ more. refl;
       counted = omega (arith);
       few = λ k. one_more s.operations l;
     }
     told_one s o (Throws t w) e l = absurd (never o s.world w t e)
-    told_one s o (Asks q) e l = record {
+    told_one s o (Asks q w) e l = record {
       operations = [];
       answers = [];
-      to = s.world;
+      mid = s.world;
       operation = o;
       told = refl;
       asked = tt;
       untold = e;
       stops = refl;
+      counted = omega (arith);
+      few = λ k. one_more s.operations l;
     }
 
     counted_one : (s : Shared W) (o : TableOp) (b : Bool) → nat_lt s.operations max_operations ≡ b

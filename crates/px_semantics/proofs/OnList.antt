@@ -8,7 +8,7 @@ use Rattle.px_value.specs.Outcome.{Outcome, Gives, Throws, Asks}
 use Rattle.px_semantics.specs.Run.{Shared}
 use Rattle.px_semantics.specs.Asks.{by_list}
 use Rattle.px_semantics.specs.Calls.{Source}
-use Rattle.px_semantics.specs.Laws.{Ends, on_list, IfEnds, IfAsks, EndsSo, AsksInOrder, LongerLists, OnlyWrittenDown, OneForEach, AskedInOrder, OpenAtTheEnd}
+use Rattle.px_semantics.specs.Laws.{Ends, on_list, IfEnds, IfAsks, with_world, EndsSo, AsksInOrder, LongerLists, OnlyWrittenDown, OneForEach, AskedInOrder, OpenAtTheEnd}
 use Rattle.px_semantics.proofs.Follows.{asked_then, Told, Follows}
 use Rattle.px_semantics.proofs.FollowsThere.{NeverThrows, shared_view}
 use Rattle.px_semantics.proofs.FollowsCalls.{exec_follows}
@@ -18,27 +18,27 @@ use Rattle.px_semantics.proofs.FollowsCalls.{exec_follows}
 abbrev pub IsGiven : {Q S A : Type 0} → Outcome Q S A → Type 0
 IsGiven (Gives a s) = Unit {0}
 IsGiven (Throws t s) = ⊥
-IsGiven (Asks q) = ⊥
+IsGiven (Asks q z) = ⊥
 
 abbrev pub IsOpen : {Q S A : Type 0} → Outcome Q S A → Type 0
 IsOpen (Gives a s) = ⊥
 IsOpen (Throws t s) = ⊥
-IsOpen (Asks q) = Unit {0}
+IsOpen (Asks q z) = Unit {0}
 
 abbrev pub given_or : {Q S A : Type 0} → A → Outcome Q S A → A
 given_or b (Gives a s) = a
 given_or b (Throws t s) = b
-given_or b (Asks q) = b
+given_or b (Asks q z) = b
 
 abbrev pub state_or : {Q S A : Type 0} → S → Outcome Q S A → S
 state_or u (Gives a s) = s
 state_or u (Throws t s) = s
-state_or u (Asks q) = u
+state_or u (Asks q s) = s
 
 abbrev pub question_or : {Q S A : Type 0} → Q → Outcome Q S A → Q
 question_or p (Gives a s) = p
 question_or p (Throws t s) = p
-question_or p (Asks q) = q
+question_or p (Asks q z) = q
 
 -- ---- answers by a list
 
@@ -62,9 +62,9 @@ told_by_list (o ∷ os) (a ∷ xs) (b ∷ from) to h =
 told_by_list [] (a ∷ xs) from to h = absurd h
 told_by_list (o ∷ os) [] from to h = absurd h
 
-told_open : (os : List TableOp) (xs from to : A) (o q : TableOp) → Told TableOp A by_list os xs from to → by_list o to ≡ Asks q → (from ≡ xs) × (o ≡ q)
-told_open os xs from [] o q h e = (told_by_list os xs from [] h ∙ append-nil xs, ap (λ (x : O). question_or o x) e)
-told_open os xs from (a ∷ to) o q h e = absurd (subst (λ (x : O). IsGiven x) e tt)
+told_open : (os : List TableOp) (xs from mid to : A) (o q : TableOp) → Told TableOp A by_list os xs from mid → by_list o mid ≡ Asks q to → (from ≡ xs) × (o ≡ q) × (to ≡ [])
+told_open os xs from [] to o q h e = (told_by_list os xs from [] h ∙ append-nil xs, ap (λ (x : O). question_or o x) e, sym (ap (λ (x : O). state_or [] x) e))
+told_open os xs from (a ∷ mid) to o q h e = absurd (subst (λ (x : O). IsGiven x) e tt)
 
 -- ---- the laws
 
@@ -74,7 +74,7 @@ Comes o s run = Follows TableOp A by_list (shared_view A) (Option Value) o s run
 longer_at : (o : Ends) (s : Shared A) (run : A → Ends) (more : A) → Comes o s run → IfEnds o (λ t. EndsSo o (t.world ++ more) (run (s.world ++ more)))
 longer_at (Gives v t) s run more h = ap run (ap (λ (x : A). x ++ more) (told_by_list h.operations h.answers s.world t.world h.told) ∙ append_assoc h.answers t.world more) ∙ h.reached (t.world ++ more)
 longer_at (Throws e t) s run more h = ap run (ap (λ (x : A). x ++ more) (told_by_list h.operations h.answers s.world t.world h.told) ∙ append_assoc h.answers t.world more) ∙ h.reached (t.world ++ more)
-longer_at (Asks q) s run more h = tt
+longer_at (Asks q z) s run more h = tt
 
 -- what is known where a run ends
 record Used (s t : Shared A) (run : A → Ends) : Type 0 where
@@ -88,21 +88,21 @@ record Used (s t : Shared A) (run : A → Ends) : Type 0 where
 used_at : (o : Ends) (s : Shared A) (run : A → Ends) → Comes o s run → IfEnds o (λ t. Used s t run)
 used_at (Gives v t) s run h = record { used = h.answers; operations = h.operations; left = told_by_list h.operations h.answers s.world t.world h.told; counted = h.counted; few = h.few; asked = h.asked }
 used_at (Throws e t) s run h = record { used = h.answers; operations = h.operations; left = told_by_list h.operations h.answers s.world t.world h.told; counted = h.counted; few = h.few; asked = h.asked }
-used_at (Asks q) s run h = tt
+used_at (Asks q z) s run h = tt
 
-open_at : (o : Ends) (s : Shared A) (run : A → Ends) → Comes o s run → IfAsks o (λ q. (operations : List TableOp) × ((answer : Answer) → AsksInOrder run (operations ++ q ∷ []) (s.world ++ answer ∷ [])))
+open_at : (o : Ends) (s : Shared A) (run : A → Ends) → Comes o s run → IfAsks o (λ q t. (t.world ≡ []) × (t.operations ≡ length s.world + s.operations + 1) × (s.operations ≤ 100 → t.operations ≤ 100) × (operations : List TableOp) × ((answer : Answer) → AsksInOrder run (operations ++ q ∷ []) (s.world ++ answer ∷ [])))
 open_at (Gives v t) s run h = tt
 open_at (Throws e t) s run h = tt
-open_at (Asks q) s run h =
-    let e = told_open h.operations h.answers s.world h.to h.operation q h.told h.untold in
-    let now : run (s.world ++ []) ≡ Asks q = ap run (append-nil s.world ∙ e.0) ∙ h.stops ∙ ap Asks e.1 in
+open_at (Asks q t) s run h =
+    let e = told_open h.operations h.answers s.world h.mid t.world h.operation q h.told h.untold in
+    let now : run (s.world ++ []) ≡ Asks q (with_world t []) = ap run (append-nil s.world ∙ e.0) ∙ h.stops ∙ ap (λ (x : TableOp). Asks x (with_world t [])) e.1 in
     let before : AsksInOrder run h.operations s.world = subst (λ (x : A). AsksInOrder run h.operations x) (sym e.0) h.asked in
-    (h.operations, λ answer. asked_then (Shared A) (Option Value) run (λ more. run (s.world ++ more)) h.operations s.world (q ∷ []) (answer ∷ []) before (λ more. refl) (now, tt))
+    (e.2, h.counted ∙ ap (λ (x : A). length x + s.operations + 1) (sym e.0), h.few, h.operations, λ answer. asked_then (Shared A) (Option Value) run (λ more. run (s.world ++ more)) h.operations s.world (q ∷ []) (answer ∷ []) before (λ more. refl) ((with_world t [], now), tt))
 
 if_ends : (o : Ends) (H K : Shared A → Type 0) → ((t : Shared A) → H t → K t) → IfEnds o H → IfEnds o K
 if_ends (Gives v t) H K k h = k t h
 if_ends (Throws e t) H K k h = k t h
-if_ends (Asks q) H K k h = tt
+if_ends (Asks q z) H K k h = tt
 
 abbrev start : List Object → A → Shared A
 start heap answers = record { heap = heap; world = answers; prints = []; turns = 0; operations = 0 }
@@ -131,5 +131,13 @@ one_for_each P heap answers method args = if_ends (on_list P heap method args an
 pub asked_in_order : AskedInOrder
 asked_in_order P heap answers method args = if_ends (on_list P heap method args answers) (What P heap answers method args) _ (λ t h. (h.used, h.operations, h.left, h.asked)) (what P heap answers method args)
 
+if_asks : (o : Ends) (H K : TableOp → Shared A → Type 0) → ((q : TableOp) (t : Shared A) → H q t → K q t) → IfAsks o H → IfAsks o K
+if_asks (Gives v t) H K k h = tt
+if_asks (Throws e t) H K k h = tt
+if_asks (Asks q t) H K k h = k q t h
+
+one_more : (n m : ℕ) → n ≡ m + 0 + 1 → n ≡ m + 1
+one_more n m h = omega (arith, h)
+
 pub open_at_the_end : OpenAtTheEnd
-open_at_the_end P heap answers method args = open_at (on_list P heap method args answers) (start heap answers) (on_list P heap method args) (comes P heap answers method args)
+open_at_the_end P heap answers method args = if_asks (on_list P heap method args answers) _ _ (λ q t h. (h.0, one_more t.operations (length answers) h.1, h.2 (omega (arith)), h.3, h.4)) (open_at (on_list P heap method args answers) (start heap answers) (on_list P heap method args) (comes P heap answers method args))

@@ -20,14 +20,14 @@ use Rattle.px_semantics.proofs.OnList.{IsGiven, given_or, state_or, question_or}
 abbrev DoesEnd : Ends → Type 0
 DoesEnd (Gives v s) = Unit {0}
 DoesEnd (Throws t s) = Unit {0}
-DoesEnd (Asks q) = ⊥
+DoesEnd (Asks q z) = ⊥
 
 same_operations : (run : List Answer → Ends) (os os' : List TableOp) (T : Tables) → AsksInOrder run os (answers_to os T) → AsksInOrder run os' (answers_to os' T) → DoesEnd (run (answers_to os T)) → DoesEnd (run (answers_to os' T)) → os ≡ os'
 same_operations run [] [] T h h' k k' = refl
-same_operations run [] (o' ∷ os') T h h' k k' = absurd (subst DoesEnd h'.0 k)
-same_operations run (o ∷ os) [] T h h' k k' = absurd (subst DoesEnd h.0 k')
+same_operations run [] (o' ∷ os') T h h' k k' = absurd (subst DoesEnd h'.0.1 k)
+same_operations run (o ∷ os) [] T h h' k k' = absurd (subst DoesEnd h.0.1 k')
 same_operations run (o ∷ os) (o' ∷ os') T h h' k k' =
-    let e : o' ≡ o = ap (λ (x : Ends). question_or o x) (sym h'.0 ∙ h.0) in
+    let e : o' ≡ o = ap (λ (x : Ends). question_or o x) (sym h'.0.1 ∙ h.0.1) in
     let there = same_operations (λ more. run (answer_to o T ∷ more)) os os' (after o T) h.1 (subst (λ (x : TableOp). AsksInOrder (λ more. run (answer_to x T ∷ more)) os' (answers_to os' (after x T))) e h'.1) k (subst (λ (x : TableOp). DoesEnd (run (answer_to x T ∷ answers_to os' (after x T)))) e k') in
     λ i. sym e i ∷ there i
 
@@ -67,7 +67,7 @@ module _ (Q : Type 0) where
         same = ap run (sym e.0 ∙ sym (append-nil h.answers)) ∙ h.reached [];
         tables_after = e.1;
       }
-  as_on_list (Asks q) s run h = absurd (subst (λ (x : O). IsGiven x) h.untold tt)
+  as_on_list (Asks q z) s run h = absurd (subst (λ (x : O). IsGiven x) h.untold tt)
 
   pub tables_as_lists : TablesAsLists Q
   tables_as_lists P heap T method args = as_on_list (exec {Q = Q} by_tables P heap T method args) (record { heap = heap; world = T; prints = []; turns = 0; operations = 0 }) (on_list P heap method args) (exec_follows Q Tables by_tables never_thrown P heap T method args)
@@ -77,17 +77,17 @@ module _ (Q : Type 0) where
   ends_so : (end : Outcome Q (Shared Tables) (Option Value)) (o : Ends) → EndsSo end [] o → DoesEnd o
   ends_so (Gives v t) o h = subst DoesEnd (sym h) tt
   ends_so (Throws e t) o h = subst DoesEnd (sym h) tt
-  ends_so (Asks q) o h = absurd h
+  ends_so (Asks q z) o h = absurd h
 
   back : (end : Outcome Q (Shared Tables) (Option Value)) (o : Ends) (to : Tables) → EndsSo end [] o → EndsIn end to → IfEnds o (λ s. EndsSo o to end)
   back (Gives v t) o to h k = subst (λ (x : Ends). IfEnds x (λ s. EndsSo {R = Q} x to (Gives v t))) (sym h) (ap (λ (w : Tables). Gives v (with_world t w)) k)
   back (Throws e t) o to h k = subst (λ (x : Ends). IfEnds x (λ s. EndsSo {R = Q} x to (Throws e t))) (sym h) (ap (λ (w : Tables). Throws e (with_world t w)) k)
-  back (Asks q) o to h k = absurd h
+  back (Asks q z) o to h k = absurd h
 
   if_does : (o : Ends) (H : Shared (List Answer) → Type 0) → (DoesEnd o → IfEnds o H) → IfEnds o H
   if_does (Gives v t) H k = k tt
   if_does (Throws e t) H k = k tt
-  if_does (Asks q) H k = tt
+  if_does (Asks q z) H k = tt
 
   pub lists_as_tables : ListsAsTables Q
   lists_as_tables P heap T method args os h =

@@ -41,7 +41,7 @@ module _ (Q W : Type 0) (I : W → Type 0) (ask : Ask Q W) (S : Source) (answers
     left slots result c heap (Gives Goes s) e h = (h.0, h.1.1, subst (λ (t : Ty). HasType s.shared.heap t Null) (sym (e h.2)) (types.HasType.null ty.Void tt))
     left slots result c heap (Gives (Returns v) s) e h = (h.0, h.1.1, h.2)
     left slots result c heap (Throws t s) e h = tt
-    left slots result c heap (Asks q) e h = tt
+    left slots result c heap (Asks q z) e h = tt
 
     entered : (m : Method) (fact : MethodFact) (heap : List Object) (values : List Value) → IsTypedMethod F m fact → HaveTypes heap (ty.Object fact.class ∷ fact.params) values → KeepsThere Q W F I heap (Option Value) (enters (P Q W F I fact.slots ask answers calls kept) (Some m) (Some fact) values) (GivesBack fact.result)
     entered m fact heap values t h = record {
@@ -84,7 +84,7 @@ module _ (W : Type 0) (I : W → Type 0) (ask : Ask ⊥ W) (S : Source) (answers
   ended_kept : (heap : List Object) (world : W) (entry : Entry) (o : Outcome ⊥ (Shared W) (Option Value)) → IsSessionHeap S.facts heap → I world → EndedThere ⊥ W S.facts I (Option Value) (GivesBack (given_type entry.gives)) heap o → IsTypedAfter S.facts I entry (ended heap world o)
   ended_kept heap world entry (Gives v s) h i k = record { heap = record { typed = k.1.0; main = k.0.kinds 0 (kind.Object S.facts.main.class) h.main }; world = k.1.1; reply = replied s.heap entry v k.2 }
   ended_kept heap world entry (Throws t s) h i k = record { heap = h; world = i; reply = tt }
-  ended_kept heap world entry (Asks q) h i k = absurd q
+  ended_kept heap world entry (Asks q z) h i k = absurd q
 
   called_kept : (heap : List Object) (world : W) (found : Option Entry) (entry : Entry) (args : List Value) → found ≡ Some entry → IsTypedEntry S.facts entry → IsSessionHeap S.facts heap → I world → HaveTypes heap (map inner_type entry.params) args → IsTypedAfter S.facts I entry (called_entry ask S heap world found args)
   called_kept heap world found entry args e t h i a =

@@ -293,7 +293,7 @@ module _ (Q W : Type 0) (F : Facts) (I : W → Type 0) where
     told : (s : Shared W) (o : TableOp) (x : Outcome Q W Answer) → ask o s.world ≡ x → IsAsked F o → IsTypedHeap F s.heap × I s.world → EndedThere Answer (λ h a. IsAnswerTo o.statement a) s.heap (in_world s x)
     told s o (Gives a w) e p k = let r = answers o s.world k.1 p a w e in (stays s.heap, (k.0, r.0), r.1)
     told s o (Throws t w) e p k = tt
-    told s o (Asks q) e p k = tt
+    told s o (Asks q z) e p k = tt
 
     asked_kept : (heap : List Object) (o : TableOp) → IsAsked F o → KeepsThere heap Answer (asked ask o) (λ h a. IsAnswerTo o.statement a)
     asked_kept heap o p = record { at = λ s g k. told s o (ask o s.world) refl p k }

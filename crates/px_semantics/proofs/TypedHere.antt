@@ -32,7 +32,7 @@ module _ (Q W : Type 0) (F : Facts) (I : W → Type 0) (slots : List Ty) where
   beside_at : (A : Type 0) (P : List Object → A → Type 0) (s : Frame W) (o : Outcome Q (Shared W) A) → HaveTypes s.shared.heap slots s.locals → EndedThere Q W F I A P s.shared.heap o → Ended Q K A P s.shared.heap (beside s.locals o)
   beside_at A P s (Gives a t) l h = (h.0, (keep_types s.shared.heap t.heap h.0 slots s.locals l, h.1), h.2)
   beside_at A P s (Throws e t) l h = tt
-  beside_at A P s (Asks q) l h = tt
+  beside_at A P s (Asks q z) l h = tt
 
   pub shared_here : (A : Type 0) (P : List Object → A → Type 0) (heap : List Object) (r : There Q W A) → KeepsThere Q W F I heap A r P → KeepsHere heap A (on_shared r) P
   shared_here A P heap r h = record { at = λ s g k. beside_at A P s (r s.shared) k.0 (h.at s.shared g k.1) }

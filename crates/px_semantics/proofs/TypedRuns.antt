@@ -17,7 +17,7 @@ module _ (Q : Type 0) (K : Kept) where
   abbrev pub Ended : (A : Type 0) → (List Object → A → Type 0) → List Object → Outcome Q K.State A → Type 0
   Ended A P heap (Gives a s) = Grows heap (K.heap s) × K.Holds s × P (K.heap s) a
   Ended A P heap (Throws t s) = Unit {0}
-  Ended A P heap (Asks q) = Unit {0}
+  Ended A P heap (Asks q z) = Unit {0}
 
   -- so it ends from each state that holds, whose heap grew from this one
   pub record Keeps (heap : List Object) (A : Type 0) (r : Run Q K.State A) (P : List Object → A → Type 0) : Type 0 where
@@ -26,7 +26,7 @@ module _ (Q : Type 0) (K : Kept) where
   ended_from : (A : Type 0) (P : List Object → A → Type 0) (a b : List Object) (o : Outcome Q K.State A) → Grows a b → Ended A P b o → Ended A P a o
   ended_from A P a b (Gives v s) g h = (grows_then a b (K.heap s) g h.0, h.1, h.2)
   ended_from A P a b (Throws t s) g h = tt
-  ended_from A P a b (Asks q) g h = tt
+  ended_from A P a b (Asks q z) g h = tt
 
   pub keeps_later : (A : Type 0) (r : Run Q K.State A) (P : List Object → A → Type 0) (a b : List Object) → Grows a b → Keeps a A r P → Keeps b A r P
   keeps_later A r P a b g h = record { at = λ s k. h.at s (grows_then a b (K.heap s) g k) }
@@ -44,7 +44,7 @@ module _ (Q : Type 0) (K : Kept) where
   ended_then : (A B : Type 0) (P : List Object → A → Type 0) (R : List Object → B → Type 0) (heap : List Object) (o : Outcome Q K.State A) (f : A → Run Q K.State B) → Ended A P heap o → ((later : List Object) → Grows heap later → (a : A) → P later a → Keeps later B (f a) R) → Ended B R heap (then_run o f)
   ended_then A B P R heap (Gives a s) f h k = ended_from B R heap (K.heap s) (f a s) h.0 ((k (K.heap s) h.0 a h.2).at s (stays (K.heap s)) h.1)
   ended_then A B P R heap (Throws t s) f h k = tt
-  ended_then A B P R heap (Asks q) f h k = tt
+  ended_then A B P R heap (Asks q z) f h k = tt
 
   pub and_then : {A B : Type 0} (P : List Object → A → Type 0) (R : List Object → B → Type 0) (heap : List Object) (r : Run Q K.State A) (f : A → Run Q K.State B) → Keeps heap A r P → ((later : List Object) → Grows heap later → (a : A) → P later a → Keeps later B (f a) R) → Keeps heap B (r >>= f) R
   and_then {A} {B} P R heap r f h k = record { at = λ s g holds. ended_then A B P R (K.heap s) (r s) f (h.at s g holds) (λ later l a p. k later (grows_then heap (K.heap s) later g l) a p) }

@@ -92,7 +92,7 @@ module _ (Q W : Type 0) (F : Facts) (I : W → Type 0) (slots : List Ty) (ask : 
       weaker : (s : Frame W) (o : Outcome Q (Frame W) (Flow Value)) → Ended Q (frame_kept F slots W I) (Flow Value) (Flows c) s.shared.heap o → Ended Q (frame_kept F slots W I) (Flow Value) (Flows d) s.shared.heap o
       weaker s (Gives f t) x = (x.0, x.1, flow_in c d h t.shared.heap f x.2)
       weaker s (Throws e t) x = tt
-      weaker s (Asks q) x = tt
+      weaker s (Asks q z) x = tt
 
   -- ---- locals
 

@@ -293,12 +293,12 @@ module _ (Q : Type 0) where
   abbrev answer_in : Answer → O → Answer
   answer_in d (Gives a T) = a
   answer_in d (Throws t T) = d
-  answer_in d (Asks q) = d
+  answer_in d (Asks q z) = d
 
   abbrev tables_in : Tables → O → Tables
   tables_in d (Gives a T) = T
   tables_in d (Throws t T) = T
-  tables_in d (Asks q) = d
+  tables_in d (Asks q z) = d
 
   fitting : (widths : List ℕ) (F : Facts) (o : TableOp) → OperationsFit widths F → IsAsked F o → FitsTables widths o.statement (length o.params)
   fitting widths F o f p =

@@ -13,5 +13,5 @@ by_tables o = λ T. Gives (answer_to o T) (after o T)
 
 -- The answers are written down in a list. Where it ends, the operation is left as an open question.
 abbrev pub by_list : Ask TableOp (List Answer)
-by_list o [] = Asks o
+by_list o [] = Asks o []
 by_list o (answer ∷ answers) = Gives answer answers

@@ -30,7 +30,7 @@ result_of (Returns v) = v
 abbrev pub leaves_frame : {Q L G : Type 0} → Outcome Q (State L G) (Flow Value) → Outcome Q G (Option Value)
 leaves_frame (Gives flow s) = Gives (result_of flow) s.shared
 leaves_frame (Throws t s) = Throws t s.shared
-leaves_frame (Asks q) = Asks q
+leaves_frame (Asks q s) = Asks q s.shared
 
 -- a method that isn't there does nothing
 abbrev pub enters : {Q W : Type 0} → Around Q W → Option Method → Option MethodFact → List Value → There Q W (Option Value)

@@ -40,7 +40,7 @@ reply_of (Some v) = reply.Value v
 abbrev pub ended : {W : Type 0} → List Object → W → Outcome ⊥ (Shared W) (Option Value) → Called W
 ended heap world (Gives v s) = record { reply = reply_of v; prints = s.prints; heap = s.heap; world = s.world }
 ended heap world (Throws t s) = record { reply = reply.Threw t; prints = []; heap = heap; world = world }
-ended heap world (Asks q) = absurd q
+ended heap world (Asks q s) = absurd q
 
 -- an entry that isn't there does nothing
 abbrev pub called_entry : {W : Type 0} → Ask ⊥ W → Source → List Object → W → Option Entry → List Value → Called W

@@ -1,5 +1,5 @@
 -- What holds of a run whose answers are written in a list, and of one that tables answer.
-use Rattle.std.specs.Prelude.{◌≡◌, ℕ, ◌≤◌, Bool, List, [], ◌∷◌, ◌++◌, length, map, Option, Some, slice_get}
+use Rattle.std.specs.Prelude.{◌≡◌, ℕ, ◌+◌, ◌≤◌, Bool, List, [], ◌∷◌, ◌++◌, length, map, Option, Some, slice_get}
 use Rattle.px_value.specs.declared.value.Value.{Value}
 use Rattle.px_value.specs.declared.object.Object.{Object}
 use Rattle.px_value.specs.declared.statement.TableOp.{TableOp}
@@ -31,13 +31,13 @@ on_list P heap method args answers = exec by_list P heap answers method args
 abbrev pub IfEnds : {Q S A : Type 0} → Outcome Q S A → (S → Type 0) → Type 0
 IfEnds (Gives v s) H = H s
 IfEnds (Throws t s) H = H s
-IfEnds (Asks q) H = Unit {0}
+IfEnds (Asks q s) H = Unit {0}
 
--- where it leaves a question open, this holds of the question
-abbrev pub IfAsks : {Q S A : Type 0} → Outcome Q S A → (Q → Type 0) → Type 0
+-- where it leaves a question open, this holds of the question and of the state that was reached
+abbrev pub IfAsks : {Q S A : Type 0} → Outcome Q S A → (Q → S → Type 0) → Type 0
 IfAsks (Gives v s) H = Unit {0}
 IfAsks (Throws t s) H = Unit {0}
-IfAsks (Asks q) H = H q
+IfAsks (Asks q s) H = H q s
 
 -- the same but for the world
 abbrev pub with_world : {V W : Type 0} → Shared V → W → Shared W
@@ -47,14 +47,14 @@ with_world s world = record { heap = s.heap; world = world; prints = s.prints; t
 abbrev pub EndsSo : {Q R V W A : Type 0} → Outcome Q (Shared V) A → W → Outcome R (Shared W) A → Type 0
 EndsSo (Gives v s) world end = end ≡ Gives v (with_world s world)
 EndsSo (Throws t s) world end = end ≡ Throws t (with_world s world)
-EndsSo (Asks q) world end = ⊥
+EndsSo (Asks q s) world end = ⊥
 
 -- A run asks these operations, one after the other, as it is given these answers: with no answer it asks the first operation,
 -- and, once the first answer is given, it asks the others in order.
 abbrev pub AsksInOrder : {S A : Type 0} → (List Answer → Outcome TableOp S A) → List TableOp → List Answer → Type 0
-AsksInOrder run [] [] = Unit {0}
-AsksInOrder run (o ∷ operations) (a ∷ answers) = (run [] ≡ Asks o) × AsksInOrder (λ more. run (a ∷ more)) operations answers
-AsksInOrder run _ _ = ⊥
+AsksInOrder {S} run [] [] = Unit {0}
+AsksInOrder {S} run (o ∷ operations) (a ∷ answers) = ((s : S) × (run [] ≡ Asks o s)) × AsksInOrder (λ more. run (a ∷ more)) operations answers
+AsksInOrder {S} run _ _ = ⊥
 
 -- ---- lists of answers
 
@@ -78,10 +78,11 @@ abbrev pub AskedInOrder : Type 0
 AskedInOrder = (P : Source) (heap : List Object) (answers : List Answer) (method : ℕ) (args : List Value)
     → IfEnds (on_list P heap method args answers) (λ s. (used : List Answer) × (operations : List TableOp) × (answers ≡ used ++ s.world) × AsksInOrder (on_list P heap method args) operations used)
 
--- all answers are used before a question is left open, and the question is what is asked next
+-- All answers are used before a question is left open, and the question is what is asked next. The state that stands there has counted it
+-- beside those that were answered.
 abbrev pub OpenAtTheEnd : Type 0
 OpenAtTheEnd = (P : Source) (heap : List Object) (answers : List Answer) (method : ℕ) (args : List Value)
-    → IfAsks (on_list P heap method args answers) (λ o. (operations : List TableOp) × ((answer : Answer) → AsksInOrder (on_list P heap method args) (operations ++ o ∷ []) (answers ++ answer ∷ [])))
+    → IfAsks (on_list P heap method args answers) (λ o s. (s.world ≡ []) × (s.operations ≡ length answers + 1) × (s.operations ≤ max_operations) × (operations : List TableOp) × ((answer : Answer) → AsksInOrder (on_list P heap method args) (operations ++ o ∷ []) (answers ++ answer ∷ [])))
 
 -- ---- tables
 

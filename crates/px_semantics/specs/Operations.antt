@@ -52,7 +52,7 @@ counted = λ s. if nat_lt s.operations max_operations then Gives tt (record s { 
 abbrev pub in_world : {Q W A : Type 0} → Shared W → Outcome Q W A → Outcome Q (Shared W) A
 in_world s (Gives a world) = Gives a (record s { world = world })
 in_world s (Throws t world) = Throws t (record s { world = world })
-in_world s (Asks q) = Asks q
+in_world s (Asks q world) = Asks q (record s { world = world })
 
 abbrev pub asked : {Q W : Type 0} → Ask Q W → TableOp → There Q W Answer
 asked ask o = λ s. in_world s (ask o s.world)

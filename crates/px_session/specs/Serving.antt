@@ -42,7 +42,7 @@ reply_of (Some v) = reply.Value v
 abbrev pub called_as : List Object → CodeOutcome → Called
 called_as heap (Gives v s) = record { reply = reply_of v; heap = s.shared.heap }
 called_as heap (Throws t s) = record { reply = reply.Threw t; heap = heap }
-called_as heap (Asks q) = absurd q
+called_as heap (Asks q s) = absurd q
 
 abbrev pub by_code : Code → Calling
 by_code code heap c = called_as heap (run_of code heap c.method c.args)
