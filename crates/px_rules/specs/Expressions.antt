@@ -98,12 +98,16 @@ abbrev pub wanted : ℕ → Option MethodType → List Ty
 wanted count None = []
 wanted count (Some m) = if has_count m count then m.params else []
 
--- the arguments from one on; where no parameter is wanted, any value fits
+-- where the type that is wanted isn't known, any argument fits, a void call too
+abbrev pub argument_fits : Ty → Ty → Bool
+argument_fits want given = is_unknown want || fits want given
+
+-- the arguments from one on; where no parameter is wanted, any fits
 abbrev pub arguments : ℕ → List Ty → ℕ → Locals → List Judges → List Note
 arguments token wants place locals [] = []
 arguments token wants place locals (j ∷ js) =
     let x = j false locals in
-    x.notes ++ (misfit (fits (slice_index_or wants place Unknown) x.ty) token ++ arguments token wants (place + 1) locals js)
+    x.notes ++ (misfit (argument_fits (slice_index_or wants place Unknown) x.ty) token ++ arguments token wants (place + 1) locals js)
 
 abbrev pub call : Context → ℕ → Typed → Name → List Judges → Locals → Typed
 call context token of name args locals =

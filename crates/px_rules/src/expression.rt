@@ -236,7 +236,7 @@ impl Context {
         Ok(())
     }
 
-    // The types of arguments. Where no type is wanted, any value fits.
+    // The types of arguments. Where no type is wanted, any argument fits.
     #[cycle(expression)]
     #[tactic(auto, using(crate::proofs::Forms::forms, crate::proofs::Notes::after_append))]
     fn arguments(
@@ -255,7 +255,7 @@ impl Context {
         let mut place: usize = 0;
         for arg in args {
             let ty = self.expression(alloc, locals, report, arg, false)?;
-            report.breach_if(!fits(wanted_at(wanted, place), ty), token, 6);
+            argument(report, token, wanted_at(wanted, place), ty);
             types.push(ty)?;
             place += 1;
         }
@@ -344,6 +344,14 @@ pub fn or_unknown(found: Option<Ty>) -> Ty
         Some(ty) => ty,
         None => Ty::Unknown,
     }
+}
+
+// An argument, where a type is wanted.
+fn argument(report: &mut Report, token: u32, wanted: Ty, ty: Ty)
+    ensures { report.new ≡ after report.old (expressions.misfit (expressions.argument_fits wanted ty) token) }
+{
+    let fitting = wanted.is_unknown() || fits(wanted, ty);
+    report.breach_if(!fitting, token, 6);
 }
 
 fn indexed(report: &mut Report, token: u32, of: Ty, at: Ty) -> Ty

@@ -37,6 +37,3 @@ pub use breach::Breach;
 pub use error::CheckError;
 pub use program::first_breach;
 pub use verdict::check;
-
-#[cfg(test)]
-mod tests;

@@ -39,7 +39,7 @@ use Rattle.px_rules.specs.Members.{base_type, class_type, no_class, names_no_cla
 use Rattle.px_rules.specs.Scopes.{no_locals, variable_type}
 use Rattle.px_rules.specs.Facts.{typed_only, variable_fact, field_fact, method_fact, new_of, new_fact, database_fact, verb_fact, field_at, field_place, method_at, method_place, numbered_method}
 use Rattle.px_rules.specs.Database.{Written, Bare, Literal, Other, written, asked, literal_in, operation_of, asked_operation, each_fits, all_fit, text_notes, fits_verb, if_fitting, column_type, verb_type}
-use Rattle.px_rules.specs.Expressions.{Typed, typed, of_type, number, text, misfit, variable, bracketed, field, index, arguments, wanted, has_count, call, types_of, database_notes, database_call, new_object, new_array, prefixed, binary, method_notes, result_of, found_type}
+use Rattle.px_rules.specs.Expressions.{Typed, typed, of_type, number, text, misfit, variable, bracketed, field, index, argument_fits, arguments, wanted, has_count, call, types_of, database_notes, database_call, new_object, new_array, prefixed, binary, method_notes, result_of, found_type}
 use Rattle.px_rules.specs.Known.{Known, known, fact_only, leaf, all_nodes, argument_nodes, text_known, name_known, group_known, field_known, index_known, own_call, call_known, operation_in, array_known, operator_known}
 use Rattle.px_rules.proofs.Forms.{typed_by_form, typed_written, typed_number, typed_text, typed_true, typed_false, typed_null, typed_this, typed_name, typed_group, typed_field, typed_index, typed_own_call, typed_call, typed_database_call, typed_new, typed_new_array, typed_prefix, typed_binary, text_is_read, no_text}
 use Rattle.px_rules.proofs.KnownForms.{known_by_form, known_number, known_text, known_true, known_false, known_null, known_this, known_name, known_group, known_field, known_index, known_own_call, known_call, database_call as database_known, known_database_call, known_new, known_new_array, known_prefix, known_binary}
@@ -400,17 +400,18 @@ module _ (F : Facts) (slots : List Ty) (classes : Classes) (firsts : List ℕ) (
   clean_arguments : (token : ℕ) (wants : List Ty) (place : ℕ) (l : Locals) (xs : List Expr) → Clean (arguments token wants place l (map (typed C) xs)) → AllClean l xs
   clean_arguments token wants place l [] c = tt
   clean_arguments token wants place l (x ∷ xs) c =
-      (clean_left (typed C x false l).notes _ c, clean_arguments token wants (place + 1) l xs (clean_right (misfit (fits (get_or wants place ty.Unknown) (typed C x false l).ty) token) _ (clean_right (typed C x false l).notes _ c)))
+      (clean_left (typed C x false l).notes _ c, clean_arguments token wants (place + 1) l xs (clean_right (misfit (argument_fits (get_or wants place ty.Unknown) (typed C x false l).ty) token) _ (clean_right (typed C x false l).notes _ c)))
 
-  fit_arguments : (token : ℕ) (wants us : List Ty) (place : ℕ) (l : Locals) (xs : List Expr) → drop place wants ≡ us → length xs ≡ length us → Clean (arguments token wants place l (map (typed C) xs)) → AllFit l us xs
-  fit_arguments token wants [] place l [] d n c = tt
-  fit_arguments token wants (u ∷ us) place l [] d n c = absurd (cc n)
-  fit_arguments token wants [] place l (x ∷ xs) d n c = absurd (cc n)
-  fit_arguments token wants (u ∷ us) place l (x ∷ xs) d n c =
+  fit_arguments : (token : ℕ) (wants us : List Ty) (place : ℕ) (l : Locals) (xs : List Expr) → drop place wants ≡ us → length xs ≡ length us → AllKnown us → Clean (arguments token wants place l (map (typed C) xs)) → AllFit l us xs
+  fit_arguments token wants [] place l [] d n w c = tt
+  fit_arguments token wants (u ∷ us) place l [] d n w c = absurd (cc n)
+  fit_arguments token wants [] place l (x ∷ xs) d n w c = absurd (cc n)
+  fit_arguments token wants (u ∷ us) place l (x ∷ xs) d n w c =
       let T = typed C x false l in
+      let fitting = argument_fits (get_or wants place ty.Unknown) T.ty in
       let c' = clean_right T.notes _ c in (
-        subst (λ (z : Ty). fits z T.ty ≡ true) (at_place wants us place u ty.Unknown d) (kept (fits (get_or wants place ty.Unknown) T.ty) token 6 (clean_left (misfit (fits (get_or wants place ty.Unknown) T.ty) token) _ c')),
-        fit_arguments token wants us (place + 1) l xs (next_place wants us place u d) (cc n) (clean_right (misfit (fits (get_or wants place ty.Unknown) T.ty) token) _ c'),
+        or_right (is_unknown u) (fits u T.ty) w.0 (subst (λ (z : Ty). argument_fits z T.ty ≡ true) (at_place wants us place u ty.Unknown d) (kept fitting token 6 (clean_left (misfit fitting token) _ c'))),
+        fit_arguments token wants us (place + 1) l xs (next_place wants us place u d) (cc n) w.1 (clean_right (misfit fitting token) _ c'),
       )
 
   fit_parameters : (wants us : List Ty) (place : ℕ) (l : Locals) (xs : List Expr) → drop place wants ≡ us → length us ≡ length (types_of l (map (typed C) xs)) → each_fits wants place (types_of l (map (typed C) xs)) ≡ true → AllFit l us xs
@@ -428,10 +429,10 @@ module _ (F : Facts) (slots : List Ty) (classes : Classes) (firsts : List ℕ) (
   wanted_are : (count : ℕ) (found : Option MethodType) (m : MethodType) → found ≡ Some m → has_count m count ≡ true → wanted count found ≡ m.params
   wanted_are count found m e k = ap (wanted count) e ∙ ap (λ (b : Bool). if b then m.params else []) k
 
-  method_arguments : (token : ℕ) (m : MethodType) (found : Option MethodType) (l : Locals) (xs : List Expr) → found ≡ Some m → has_count m (length (map (typed C) xs)) ≡ true → Clean (arguments token (wanted (length (map (typed C) xs)) found) 0 l (map (typed C) xs)) → AllClean l xs × AllFit l m.params xs
+  method_arguments : (token : ℕ) (m : MethodType) (found : Option MethodType) (l : Locals) (xs : List Expr) → found ≡ Some m → has_count m (length (map (typed C) xs)) ≡ true → Clean (arguments token (wanted (length (map (typed C) xs)) found) 0 l (map (typed C) xs)) → AllClean l xs × (AllKnown m.params → AllFit l m.params xs)
   method_arguments token m found l xs e k c =
       let c' = subst (λ (us : List Ty). Clean (arguments token us 0 l (map (typed C) xs))) (wanted_are (length (map (typed C) xs)) found m e k) c in
-      (clean_arguments token m.params 0 l xs c', fit_arguments token m.params m.params 0 l xs refl (sym (length-map xs (typed C)) ∙ eqb-true _ _ k) c')
+      (clean_arguments token m.params 0 l xs c', λ w. fit_arguments token m.params m.params 0 l xs refl (sym (length-map xs (typed C)) ∙ eqb-true _ _ k) w c')
 
   -- ---- calls of methods
 
@@ -448,7 +449,7 @@ module _ (F : Facts) (slots : List Ty) (classes : Classes) (firsts : List ℕ) (
       let i = invoked F slots classes firsts this result members u name (length js) found refl refl (clean_left (method_notes C u name (length js) found) _ c) in
       let st = members.methods this name.bytes i.m i.found_is in
       let p = method_arguments x.token i.m found l args i.found_is i.counted (clean_right (method_notes C u name (length js) found) _ c) in
-      let q = all l s sees i.m.params st.known p.0 p.1 more a.next in
+      let q = all l s sees i.m.params st.known p.0 (p.1 st.known) more a.next in
       let same : result_of found ≡ i.m.result = ap result_of i.found_is in
       record {
         type_is = a.type_is;
@@ -484,7 +485,7 @@ module _ (F : Facts) (slots : List Ty) (classes : Classes) (firsts : List ℕ) (
       let p = method_arguments x.token i.m found l args i.found_is i.counted (clean_right (method_notes C T.ty name (length js) found) _ c') in
       let same : result_of (method_of K.own.fact.ty name.bytes classes) ≡ result_of found = ap (λ (z : Ty). result_of (method_of z name.bytes classes)) g.same in
       let is : result_of found ≡ i.m.result = ap result_of i.found_is in
-      let q = called_on m x of name args T.ty i.m more h g.type_is g.typed (a.named_is ∙ ap (λ (z : Ty). method_at H z (method_place z name.bytes classes)) g.same) (a.type_is ∙ same ∙ is) (callee F slots classes firsts this result members T.ty name.bytes i.m i.found_is) (λ w. all l s sees i.m.params w p.0 p.1 more g.rest) in
+      let q = called_on m x of name args T.ty i.m more h g.type_is g.typed (a.named_is ∙ ap (λ (z : Ty). method_at H z (method_place z name.bytes classes)) g.same) (a.type_is ∙ same ∙ is) (callee F slots classes firsts this result members T.ty name.bytes i.m i.found_is) (λ w. all l s sees i.m.params w p.0 (p.1 w) more g.rest) in
       record { type_is = a.type_is ∙ same; same = same; known = ap is_unknown is ∙ q.0.0; typed = q.0.1; rest = q.1 })
 
   -- ---- how an expression is written

@@ -9,8 +9,6 @@ mod pieces;
 mod read;
 mod schema;
 mod spelling;
-#[cfg(test)]
-mod tests;
 mod types;
 mod words;
 

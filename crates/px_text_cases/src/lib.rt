@@ -7,3 +7,11 @@ mod grammar;
 mod jobs;
 #[cfg(test)]
 mod rules;
+#[cfg(test)]
+mod rules_database;
+#[cfg(test)]
+mod rules_limits;
+#[cfg(test)]
+mod rules_sql;
+#[cfg(test)]
+mod rules_types;
