@@ -10,7 +10,5 @@ mod kept;
 mod plan;
 mod send;
 mod sides;
-#[cfg(test)]
-mod tests;
 
 pub use plan::compile;

@@ -285,27 +285,3 @@ impl Half {
         self.known = self.machine.heap.len();
     }
 }
-
-// What tests see of an end.
-#[cfg(test)]
-impl Half {
-    ghost use Rattle.px_half.specs.Machine.{machine_of};
-
-    pub(crate) fn side(&self) -> Side
-        ensures { result ≡ self.now.side }
-    {
-        self.side
-    }
-
-    pub(crate) fn is_in_call(&self) -> bool
-        ensures { result ≡ self.now.in_call }
-    {
-        self.in_call
-    }
-
-    pub(crate) fn machine(&self) -> &Machine
-        ensures { machine_of result.now ≡ self.now.machine }
-    {
-        &self.machine
-    }
-}

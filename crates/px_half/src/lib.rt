@@ -17,8 +17,6 @@ mod stack;
 mod step;
 mod stop;
 mod take_in;
-#[cfg(test)]
-mod tests;
 mod undo;
 
 pub use absorb::AbsorbError;

@@ -7,8 +7,6 @@ mod analysis;
 mod marks;
 mod pass;
 mod points;
-#[cfg(test)]
-mod tests;
 
 pub use analysis::points_to;
 pub use marks::Marks;

@@ -4,6 +4,12 @@
 #[cfg(test)]
 mod ends;
 #[cfg(test)]
+mod letters;
+#[cfg(test)]
 mod lock;
 #[cfg(test)]
+mod messages;
+#[cfg(test)]
 mod plans;
+#[cfg(test)]
+mod programs;

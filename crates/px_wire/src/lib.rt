@@ -12,8 +12,6 @@ mod number;
 mod order;
 mod part;
 mod slot;
-#[cfg(test)]
-mod tests;
 mod text;
 mod transfer;
 mod unread;
