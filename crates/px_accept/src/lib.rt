@@ -15,8 +15,6 @@ mod simple;
 mod stack;
 mod statements;
 mod symbol;
-#[cfg(test)]
-mod tests;
 
 pub use accept::first_refused;
 pub use role::{Role, Spelling};

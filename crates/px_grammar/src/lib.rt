@@ -28,6 +28,3 @@ pub use lexeme::{Lexeme, Word};
 pub use program::{line_at, parse, refused_line};
 pub use whole::Declared;
 pub use word::lexemes;
-
-#[cfg(test)]
-mod tests;

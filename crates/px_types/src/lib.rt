@@ -17,6 +17,3 @@ mod statement;
 pub use checked::{Checked, Entry, Fact, Named};
 pub use error::CheckError;
 pub use program::{Known, check};
-
-#[cfg(test)]
-mod tests;

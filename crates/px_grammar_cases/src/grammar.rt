@@ -1,12 +1,14 @@
+//! What of the grammar no clause says: that texts are read, which trees they have, and where the others are refused.
 ghost use Rattle.std.specs.Prelude.{◌<◌, ◌^◌, length};
 
-mod expressions;
 mod nesting;
 mod places;
 mod prefixes;
+mod printed;
+mod small;
 mod trees;
 
-use crate::{ParseError, parse};
+use px_grammar::{ParseError, parse};
 use std::alloc::{AllocError, Global};
 
 // The line at which `parse` refuses a text; none where it finds a program.

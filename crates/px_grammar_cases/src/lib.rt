@@ -1,0 +1,5 @@
+//! Tests of the grammar.
+#![tactic(auto)]
+
+#[cfg(test)]
+mod grammar;
