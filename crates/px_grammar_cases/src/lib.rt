@@ -1,5 +1,0 @@
-//! Tests of the grammar.
-#![tactic(auto)]
-
-#[cfg(test)]
-mod grammar;
