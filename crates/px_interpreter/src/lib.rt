@@ -19,8 +19,6 @@ mod serial;
 mod statements;
 mod stop;
 mod store;
-#[cfg(test)]
-mod tests;
 
 pub use plain::Plain;
 pub use serial::{Call, Ran, serve};

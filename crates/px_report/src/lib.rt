@@ -11,8 +11,6 @@ mod report;
 mod run;
 mod state;
 mod tables;
-#[cfg(test)]
-mod tests;
 mod words;
 
 pub use calls::ShownCall;

@@ -10,8 +10,6 @@ mod load;
 mod rank;
 mod rows;
 mod tables;
-#[cfg(test)]
-mod tests;
 mod tree;
 mod undo;
 

@@ -4,6 +4,8 @@
 #[cfg(test)]
 mod outside;
 #[cfg(test)]
+mod rows;
+#[cfg(test)]
 mod runs;
 #[cfg(test)]
 mod values;
