@@ -47,6 +47,7 @@ fn status_or_why(rt: &HostRuntime) -> u8 {
 }
 
 // A call may have 200 frames, each with a hundred levels of expressions and statements, which the stack of a process need not hold.
+// Where a stack of this size can't be had, the process's own has to do.
 const STACK: usize = 0x1000_0000;
 
 fn main(rt: HostRuntime) -> ExitCode {
@@ -56,7 +57,7 @@ fn main(rt: HostRuntime) -> ExitCode {
             .spawn_scoped(scope, || status_or_why(&rt));
         match served {
             Ok(handle) => handle.join(&rt),
-            Err(_) => 4,
+            Err(_) => status_or_why(&rt),
         }
     });
     ExitCode::from(status)
