@@ -7,3 +7,5 @@ mod grammar;
 mod jobs;
 #[cfg(test)]
 mod rules;
+#[cfg(test)]
+mod words;
