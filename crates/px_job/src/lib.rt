@@ -18,8 +18,6 @@ mod read;
 mod reserved;
 mod rows;
 mod settings;
-#[cfg(test)]
-mod tests;
 mod texts;
 mod verbs;
 mod words;

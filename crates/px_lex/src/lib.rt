@@ -23,6 +23,3 @@ pub use text::spelling;
 pub use token::{Token, TokenKind};
 pub use unbuilt::first_unbuilt;
 pub use word::lexemes;
-
-#[cfg(test)]
-mod tests;

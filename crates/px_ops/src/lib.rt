@@ -13,8 +13,6 @@ mod pair;
 mod same;
 mod shift;
 mod table;
-#[cfg(test)]
-mod tests;
 mod text;
 
 pub use change::changed;

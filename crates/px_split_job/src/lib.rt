@@ -15,8 +15,6 @@ mod places;
 mod reserved;
 mod split;
 mod statements;
-#[cfg(test)]
-mod tests;
 mod texts;
 mod titles;
 mod words;

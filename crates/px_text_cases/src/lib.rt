@@ -15,3 +15,5 @@ mod rules_limits;
 mod rules_sql;
 #[cfg(test)]
 mod rules_types;
+#[cfg(test)]
+mod words;

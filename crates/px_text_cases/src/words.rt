@@ -1,6 +1,7 @@
-use crate::token::TokenKind::{Bad, End, Id, Key, Number, Sign, Str};
-use crate::{TokenKind, Word, first_unbuilt, lex, lexemes};
-use std::alloc::AllocError;
+//! What of tokens and identifiers no clause says.
+use px_lex::TokenKind::{Bad, End, Id, Key, Number, Sign, Str};
+use px_lex::{Token, TokenKind, Word, first_unbuilt, is_identifier, lex, lexemes};
+use std::alloc::{AllocError, Global};
 
 // Kind, first byte, byte behind the last, line.
 type Row = (TokenKind, u32, u32, u32);
@@ -140,10 +141,18 @@ const TEXTS: [(&[u8], &[Row]); 14] = [
     ),
 ];
 
+// A case's text is short.
+fn cut(alloc: Global, text: &[u8]) -> Result<Vec<Token>, AllocError> {
+    if text.len() >= 1 << 31 {
+        return Err(AllocError);
+    }
+    lex(alloc, text)
+}
+
 #[test]
 fn texts_have_these_tokens(rt: HostRuntime) -> Result<(), AllocError> {
     for (text, want) in TEXTS {
-        let tokens = lex(rt.alloc(), text)?;
+        let tokens = cut(rt.alloc(), text)?;
         assert_eq!(rt; tokens.len(), want.len(), "at {text:?}");
         for (token, row) in tokens.iter().zip(want.iter()) {
             let found = (token.kind, token.from, token.to, token.line);
@@ -153,38 +162,59 @@ fn texts_have_these_tokens(rt: HostRuntime) -> Result<(), AllocError> {
     Ok(())
 }
 
+const WORDS: [(&[u8], &[Word]); 3] = [
+    (
+        b"class C { long x; } this .+-*",
+        &[
+            Word::Class,
+            Word::Name,
+            Word::OpenBrace,
+            Word::Long,
+            Word::Name,
+            Word::Semicolon,
+            Word::CloseBrace,
+            Word::This,
+            Word::Dot,
+            Word::Plus,
+            Word::Minus,
+            Word::Times,
+            Word::End,
+        ],
+    ),
+    (
+        b"( , ) throws 1 @",
+        &[
+            Word::Open,
+            Word::Comma,
+            Word::Close,
+            Word::Throws,
+            Word::Number,
+            Word::Bad,
+            Word::End,
+        ],
+    ),
+    // Tokens of the language that have no word of their own.
+    (
+        b"int \"a\" +=",
+        &[Word::Unbuilt, Word::Unbuilt, Word::Unbuilt, Word::End],
+    ),
+];
+
+fn words(alloc: Global, text: &[u8]) -> Result<Vec<Word>, AllocError> {
+    let tokens = cut(alloc, text)?;
+    let mut words = Vec::new(alloc);
+    if tokens.len() < 1 << 32 {
+        for lexeme in lexemes(alloc, text, &tokens)?.iter() {
+            words.push(lexeme.word)?;
+        }
+    }
+    Ok(words)
+}
+
 #[test]
 fn tokens_have_these_words(rt: HostRuntime) -> Result<(), AllocError> {
-    let text = b"class C { long x; } this .+-* ( , ) throws int \"a\" += 1 @".as_slice();
-    let want = [
-        Word::Class,
-        Word::Name,
-        Word::OpenBrace,
-        Word::Long,
-        Word::Name,
-        Word::Semicolon,
-        Word::CloseBrace,
-        Word::This,
-        Word::Dot,
-        Word::Plus,
-        Word::Minus,
-        Word::Times,
-        Word::Open,
-        Word::Comma,
-        Word::Close,
-        Word::Throws,
-        Word::Unbuilt,
-        Word::Unbuilt,
-        Word::Unbuilt,
-        Word::Number,
-        Word::Bad,
-        Word::End,
-    ];
-    let tokens = lex(rt.alloc(), text)?;
-    let lexemes = lexemes(rt.alloc(), text, &tokens)?;
-    assert_eq!(rt; lexemes.len(), want.len());
-    for (lexeme, word) in lexemes.iter().zip(want.iter()) {
-        assert_eq!(rt; lexeme.word, *word, "at {}", lexeme.token);
+    for (text, want) in WORDS {
+        assert_eq!(rt; words(rt.alloc(), text)?.as_slice(), want, "at {text:?}");
     }
     Ok(())
 }
@@ -220,7 +250,31 @@ const UNBUILT: [(&[u8], Option<u32>); 16] = [
 #[test]
 fn unbuilt_forms_are_on_these_lines(rt: HostRuntime) -> Result<(), AllocError> {
     for (text, want) in UNBUILT {
-        assert_eq!(rt; first_unbuilt(rt.alloc(), text)?, want, "at {text:?}");
+        if text.len() < 1 << 31 {
+            assert_eq!(rt; first_unbuilt(rt.alloc(), text)?, want, "at {text:?}");
+        }
     }
     Ok(())
+}
+
+const NAMES: [(&[u8], bool); 12] = [
+    (b"", false),
+    (b"a", true),
+    (b"_", true),
+    (b"$9", true),
+    (b"9a", false),
+    (b"a.b", false),
+    (b"a\x80", false),
+    (b"goto", false),
+    (b"null", false),
+    (b"strictfp", false),
+    (b"Null", true),
+    (b"gotos", true),
+];
+
+#[test]
+fn these_are_identifiers(rt: HostRuntime) {
+    for (name, want) in NAMES {
+        assert_eq!(rt; is_identifier(name), want, "{name:?}");
+    }
 }
