@@ -12,3 +12,4 @@ pub mod Ran
 pub mod Numbers
 pub mod Ruled
 pub mod Pushed
+pub mod Reading

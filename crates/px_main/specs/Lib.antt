@@ -4,3 +4,4 @@ pub mod Solo
 pub mod Whole
 pub mod Answers
 pub mod Ends
+pub mod Read

@@ -1,8 +1,10 @@
 //! The files of a command.
-ghost use Rattle.std.specs.Prelude.{◌≡◌, ◌≤◌, List, ℕ, length, IfOk, IfSome};
+ghost use Rattle.std.specs.Prelude.{◌≡◌, ◌≤◌, List, ℕ, length, IfOk, IfSome, OnOk};
 ghost use Rattle.std.specs.Option.{option_map};
 ghost use Rattle.px_outside.specs.Causes.{Rose};
+ghost use Rattle.px_outside.specs.Outside.{Handed};
 ghost use Rattle.px_main.specs.Answers.{kept};
+ghost use Rattle.px_main.specs.Read.{read_of};
 
 use px_outside::{ReadError, Shelf, read_whole};
 use std::alloc::Global;
@@ -26,6 +28,8 @@ pub fn file<S: Shelf>(
     ensures holds { (other : List ℕ) → S.holds shelf.new other ≡ S.holds shelf.old other }
     ensures later { S.faults shelf.old ≤ S.faults shelf.new }
     ensures fault { result ≡ Err Stop.ReadFault → Rose (S.faults shelf.old) (S.faults shelf.new) }
+    ensures unfailed { OnOk result (S.faults shelf.new ≡ S.faults shelf.old) }
+    ensures handed { IfOk result (λ got. Handed (S.handed shelf.old) (read_of limit (option_map (λ v. v.items) got)) (S.handed shelf.new)) }
 {
     match read_whole(alloc, shelf, name, limit) {
         Ok(bytes) => Ok(Some(bytes)),

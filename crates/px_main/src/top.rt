@@ -1,8 +1,9 @@
 //! The top call.
 ghost use Rattle.std.specs.Prelude.{◌≡◌, ◌≢◌, ◌↔◌, ◌≤◌, ◌⊎◌, ℕ, None, map, IfOk, IfSome};
 ghost use Rattle.px_outside.specs.Causes.{Rose};
-ghost use Rattle.px_main.specs.Commands.{command_of, told_by};
-ghost use Rattle.px_main.specs.Answers.{Allows, AllowsBoth, AllowsCheck, Fixes, FixesStatus, FixesStatusBoth, FixesStatusCheck};
+ghost use Rattle.px_main.specs.Commands.{command_of, told_by, Checks, Serves};
+ghost use Rattle.px_main.specs.Answers.{Fixes, FixesStatus, FixesStatusBoth, FixesStatusCheck};
+ghost use Rattle.px_main.specs.Read.{IsAfterReading};
 ghost use Rattle.px_main.specs.Ends.{Ends, TookNothing};
 
 use crate::answer::{Prepared, answer, check_answer};
@@ -18,9 +19,9 @@ pub fn still<S: Shelf, K: Sink>(alloc: Global, words: &[&str], shelf: &mut S, si
     // The words are no command, and nothing is written.
     ensures usage { (result ≡ 1) ↔ (command_of (map (λ w. w.now) words.now) ≡ None) }
     ensures usage_text { result ≡ 1 → TookNothing (K.taken sink.old) (K.taken sink.new) }
-    // Else it ends as the files say.
+    // Else it ends as the files say: where it isn't 2 or 4, all of them were read, and no read failed.
     ensures command { IfSome (command_of (map (λ w. w.now) words.now)) (λ c.
-        Ends (Allows c (S.holds shelf.old)) (Fixes c (S.holds shelf.old)) (FixesStatus c (S.holds shelf.old)) result
+        Ends (IsAfterReading c (S.holds shelf.old) (S.faults shelf.old) (S.faults shelf.new) (S.handed shelf.old) (S.handed shelf.new)) (Fixes c (S.holds shelf.old)) (FixesStatus c (S.holds shelf.old)) result
         (S.faults shelf.old) (S.faults shelf.new) (K.faults sink.old) (K.faults sink.new) (K.taken sink.old) (K.taken sink.new)) }
 {
     match read_command(words) {
@@ -34,7 +35,7 @@ const MAX_PROGRAM: u32 = 1048576;
 const MAX_JOB: u32 = 16777216;
 
 fn prepare_check<S: Shelf>(alloc: Global, program: &str, shelf: &mut S) -> Result<Prepared, Stop>
-    ensures told { IfOk result (λ r. AllowsCheck (S.holds shelf.old program.now) (r.status, r.text.items)) }
+    ensures told { IfOk result (λ r. IsAfterReading (Checks program.now) (S.holds shelf.old) (S.faults shelf.old) (S.faults shelf.new) (S.handed shelf.old) (S.handed shelf.new) (r.status, r.text.items)) }
     ensures fixed { IfOk result (λ r. (n : ℕ) → FixesStatusCheck (S.holds shelf.old program.now) n → n ≡ r.status) }
     ensures later { S.faults shelf.old ≤ S.faults shelf.new }
     ensures fault { result ≡ Err Stop.ReadFault → Rose (S.faults shelf.old) (S.faults shelf.new) }
@@ -54,7 +55,7 @@ fn prepare_serve<S: Shelf>(
     job: &str,
     shelf: &mut S,
 ) -> Result<Prepared, Stop>
-    ensures told { IfOk result (λ r. AllowsBoth kind (S.holds shelf.old program.now) (S.holds shelf.old job.now) (r.status, r.text.items)) }
+    ensures told { IfOk result (λ r. IsAfterReading (Serves kind program.now job.now) (S.holds shelf.old) (S.faults shelf.old) (S.faults shelf.new) (S.handed shelf.old) (S.handed shelf.new) (r.status, r.text.items)) }
     ensures fixed { IfOk result (λ r. (n : ℕ) → FixesStatusBoth kind (S.holds shelf.old program.now) (S.holds shelf.old job.now) n → n ≡ r.status) }
     ensures later { S.faults shelf.old ≤ S.faults shelf.new }
     ensures fault { result ≡ Err Stop.ReadFault → Rose (S.faults shelf.old) (S.faults shelf.new) }
@@ -69,7 +70,7 @@ fn prepare_serve<S: Shelf>(
 }
 
 fn prepare<S: Shelf>(alloc: Global, command: Command, shelf: &mut S) -> Result<Prepared, Stop>
-    ensures told { IfOk result (λ r. Allows (told_by command.entry) (S.holds shelf.old) (r.status, r.text.items)) }
+    ensures told { IfOk result (λ r. IsAfterReading (told_by command.entry) (S.holds shelf.old) (S.faults shelf.old) (S.faults shelf.new) (S.handed shelf.old) (S.handed shelf.new) (r.status, r.text.items)) }
     ensures fixed { IfOk result (λ r. (n : ℕ) → FixesStatus (told_by command.entry) (S.holds shelf.old) n → n ≡ r.status) }
     ensures later { S.faults shelf.old ≤ S.faults shelf.new }
     ensures fault { result ≡ Err Stop.ReadFault → Rose (S.faults shelf.old) (S.faults shelf.new) }
@@ -88,7 +89,7 @@ fn run_command<S: Shelf, K: Sink>(
     shelf: &mut S,
     sink: &mut K,
 ) -> u8
-    ensures ends { Ends (Allows (told_by command.entry) (S.holds shelf.old)) (Fixes (told_by command.entry) (S.holds shelf.old)) (FixesStatus (told_by command.entry) (S.holds shelf.old)) result
+    ensures ends { Ends (IsAfterReading (told_by command.entry) (S.holds shelf.old) (S.faults shelf.old) (S.faults shelf.new) (S.handed shelf.old) (S.handed shelf.new)) (Fixes (told_by command.entry) (S.holds shelf.old)) (FixesStatus (told_by command.entry) (S.holds shelf.old)) result
         (S.faults shelf.old) (S.faults shelf.new) (K.faults sink.old) (K.faults sink.new) (K.taken sink.old) (K.taken sink.new) }
     ensures not_usage { result ≢ 1 }
 {

@@ -172,3 +172,45 @@ fn a_program_has_at_most_a_mebibyte(rt: HostRuntime) -> Result<(), Fail> {
     }
     Ok(())
 }
+
+#[test]
+fn a_job_has_at_most_sixteen_mebibytes(rt: HostRuntime) -> Result<(), Fail> {
+    let alloc = rt.alloc();
+    let job = vec![in alloc; b'\n'; 16_777_217]?;
+    let mut sink = sink(alloc);
+    let status = run(alloc, PROGRAM.as_bytes(), job.as_slice(), &mut sink)?;
+    assert_eq!(rt; status, 6);
+    assert_eq!(rt; sink.taken(), b"job 0 J2\n".as_slice());
+    Ok(())
+}
+
+const LONG_ARRAYS: &str =
+    "class Main { public int f(int n) { long[] a = new long[n]; return a.length; } }";
+
+const LONG_CALLS: &str = "sessions 3\ncall 1 f 50000\ncall 2 f 50001\ncall 3 f -1\n";
+
+const LONG_REPLIES: &str = "calls
+call 1 1 50000
+call 2 1 threw HeapFull
+call 3 1 threw NegativeArraySizeException
+tables
+heaps
+heap 1
+0 Main
+1 ";
+
+#[test]
+fn an_array_has_at_most_fifty_thousand_cells(rt: HostRuntime) -> Result<(), Fail> {
+    let alloc = rt.alloc();
+    let mut sink = sink(alloc);
+    let status = run(
+        alloc,
+        LONG_ARRAYS.as_bytes(),
+        LONG_CALLS.as_bytes(),
+        &mut sink,
+    )?;
+    assert_eq!(rt; status, 0);
+    // The heap behind it has a line of these cells.
+    assert!(rt; sink.taken().starts_with(LONG_REPLIES.as_bytes()));
+    Ok(())
+}

@@ -47,14 +47,21 @@ fn a_read_may_fail(rt: HostRuntime) -> Result<(), Fail> {
     Ok(())
 }
 
+// A program, and words that name a file that isn't there: both are read before the program is judged.
+const MISSING: [(&str, [&str; 3]); 4] = [
+    (PROGRAM, ["run", "q", "j"]),
+    (PROGRAM, ["run", "p", "q"]),
+    ("class Main {", ["run", "p", "q"]),
+    ("class Main {", ["solo", "p", "q"]),
+];
+
 #[test]
 fn a_file_may_be_missing(rt: HostRuntime) -> Result<(), Fail> {
     let alloc = rt.alloc();
-    let mut shelf = shelf(alloc, PROGRAM.as_bytes(), JOB.as_bytes(), Vec::new(alloc))?;
-    let mut sink = sink(alloc);
-    let words: [&[&str]; 2] = [&["run", "q", "j"], &["run", "p", "q"]];
-    for words in words {
-        let status = status(alloc, words, &mut shelf, &mut sink)?;
+    for (program, words) in MISSING {
+        let mut shelf = shelf(alloc, program.as_bytes(), JOB.as_bytes(), Vec::new(alloc))?;
+        let mut sink = sink(alloc);
+        let status = status(alloc, &words, &mut shelf, &mut sink)?;
         assert_eq!(rt; status, 2, "{words:?}");
         assert!(rt; sink.taken().is_empty(), "{words:?}");
     }
