@@ -1,4 +1,5 @@
 //! What of jobs no clause says.
+use itoa::Buffer;
 use px_facts::Entry;
 use px_job::{Job, JobCode, JobError, JobFault, read_job};
 use px_value::{Column, ColumnType, Schema, Table, Text, Ty};
@@ -438,35 +439,68 @@ fn counts_and_lengths_have_limits(rt: HostRuntime) -> Result<(), Fail> {
     Ok(())
 }
 
+fn rows(alloc: Global, count: u32) -> Result<Vec<u8>, AllocError> {
+    let mut text = Vec::new(alloc);
+    for key in 0..count {
+        text.extend_from_slice(b"row k ")?;
+        text.extend_from_slice(Buffer::new().format(key).as_bytes())?;
+        text.push(b'\n')?;
+    }
+    Ok(text)
+}
+
+const ROW_COUNTS: [(u32, Option<JobError>); 2] = [
+    (100_000, None),
+    (
+        100_001,
+        Some(JobError::Fault(JobFault {
+            line: 100_001,
+            code: JobCode::J19,
+        })),
+    ),
+];
+
+#[test]
+fn a_job_has_at_most_100000_rows(rt: HostRuntime) -> Result<(), Fail> {
+    let alloc = rt.alloc();
+    let program = small_program(alloc)?;
+    for (count, want) in ROW_COUNTS {
+        let text = rows(alloc, count)?;
+        let found = read(alloc, text.as_slice(), &program);
+        assert_eq!(rt; found.err(), want);
+    }
+    Ok(())
+}
+
 // What a job holds, as numbers: its settings, how many rows and calls, the loads of each session behind their count, the order.
-fn numbers(alloc: Global, job: &Job) -> Result<Vec<u32>, AllocError> {
+fn numbers(alloc: Global, job: &Job) -> Result<Vec<u64>, AllocError> {
     let mut numbers = Vec::new(alloc);
     let settings = &job.settings;
     let set = [
-        settings.sessions as u32,
-        settings.workers as u32,
-        settings.retries as u32,
-        settings.alpha as u32,
-        settings.latency,
-        settings.per_byte,
-        settings.profile as u32,
+        settings.sessions as u64,
+        settings.workers as u64,
+        settings.retries as u64,
+        settings.alpha as u64,
+        settings.latency as u64,
+        settings.per_byte as u64,
+        settings.profile as u64,
     ];
     numbers.extend_from_slice(&set)?;
-    numbers.push(job.rows.len() as u32)?;
-    numbers.push(job.calls.len() as u32)?;
+    numbers.push(job.rows.len() as u64)?;
+    numbers.push(job.calls.len() as u64)?;
     for loads in job.loads.as_slice() {
-        numbers.push(loads.len() as u32)?;
+        numbers.push(loads.len() as u64)?;
         for load in loads.as_slice() {
-            numbers.push(*load as u32)?;
+            numbers.push(*load as u64)?;
         }
     }
     for session in job.order.as_slice() {
-        numbers.push(*session as u32)?;
+        numbers.push(*session as u64)?;
     }
     Ok(numbers)
 }
 
-const HELD: [(&[u8], &[u32]); 4] = [
+const HELD: [(&[u8], &[u64]); 4] = [
     (b"", &[1, 1, 3, 200, 1000, 1, 50, 0, 0, 0]),
     (
         b"sessions 2\nworkers 02\nretries 0\nalpha 4\n\nlatency 5\nperbyte 6\nprofile 7",
