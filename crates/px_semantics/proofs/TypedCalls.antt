@@ -2,8 +2,10 @@
 use Rattle.std.proofs.Common.{◌≡◌, ℕ, zero, suc, Bool, true, List, [], ◌∷◌, ◌++◌, map, Option, Some, None, unwrap_or, slice_get, slice_set, replicate, refl, sym, ap, ◌∙◌, subst}
 use Rattle.std.proofs.lemmas.Option.{none-some}
 use Rattle.px_value.specs.declared.value.Value.{Value}
-use Rattle.px_value.specs.declared.value.Value.TheVariants.{Null, Ref}
+use Rattle.px_value.specs.declared.value.Value.TheVariants.{Ref}
 use Rattle.px_value.specs.declared.object.Object.{Object}
+use Rattle.px_value.specs.declared.ty.Ty.{Ty as Outer}
+use Rattle.px_value.specs.declared.ty.Ty.TheVariants as outer
 use Rattle.px_value.specs.declared.header.Kind.TheVariants as kind
 use Rattle.px_value.specs.declared.thrown.Thrown.TheVariants.{StackOverflowError}
 use Rattle.px_value.specs.Outcome.{Outcome, Gives, Throws, Asks, Flow, Goes, Returns}
@@ -38,7 +40,7 @@ module _ (Q W : Type 0) (I : W → Type 0) (ask : Ask Q W) (S : Source) (answers
 
   module _ (calls : Calls Q W) (kept : CallsKept Q W F I calls) where
     left : (slots : List Ty) (result : Ty) (c : Bool) (heap : List Object) (o : Outcome Q (Frame W) (Flow Value)) → (c ≡ true → result ≡ ty.Void) → Ended Q (frame_kept F slots W I) (Flow Value) (Flows Q W F I slots ask answers calls kept result c) heap o → EndedThere Q W F I (Option Value) (GivesBack result) heap (leaves_frame o)
-    left slots result c heap (Gives Goes s) e h = (h.0, h.1.1, subst (λ (t : Ty). HasType s.shared.heap t Null) (sym (e h.2)) (types.HasType.null ty.Void tt))
+    left slots result c heap (Gives Goes s) e h = (h.0, h.1.1, e h.2)
     left slots result c heap (Gives (Returns v) s) e h = (h.0, h.1.1, h.2)
     left slots result c heap (Throws t s) e h = tt
     left slots result c heap (Asks q z) e h = tt
@@ -77,8 +79,20 @@ module _ (Q W : Type 0) (I : W → Type 0) (ask : Ask Q W) (S : Source) (answers
 -- ---- entries
 
 module _ (W : Type 0) (I : W → Type 0) (ask : Ask ⊥ W) (S : Source) (answers : AnswersTyped S.facts ask I) (typed : IsTyped S) where
+  abbrev IsVoid : Ty → Type 0
+  IsVoid ty.Void = Unit {0}
+  IsVoid _ = ⊥
+
+  void_alone : (gives : Option Outer) → given_type gives ≡ ty.Void → gives ≡ None
+  void_alone None e = refl
+  void_alone (Some outer.Int) e = absurd (subst IsVoid (sym e) tt)
+  void_alone (Some outer.Long) e = absurd (subst IsVoid (sym e) tt)
+  void_alone (Some outer.Bool) e = absurd (subst IsVoid (sym e) tt)
+  void_alone (Some outer.Text) e = absurd (subst IsVoid (sym e) tt)
+  void_alone (Some outer.Ref) e = absurd (subst IsVoid (sym e) tt)
+
   replied : (heap : List Object) (entry : Entry) (v : Option Value) → GivesBack (given_type entry.gives) heap v → HasReplyType heap entry (reply_of v)
-  replied heap entry None h = tt
+  replied heap entry None h = void_alone entry.gives h
   replied heap entry (Some v) h = h
 
   ended_kept : (heap : List Object) (world : W) (entry : Entry) (o : Outcome ⊥ (Shared W) (Option Value)) → IsSessionHeap S.facts heap → I world → EndedThere ⊥ W S.facts I (Option Value) (GivesBack (given_type entry.gives)) heap o → IsTypedAfter S.facts I entry (ended heap world o)

@@ -1,5 +1,5 @@
 -- Typed expressions come to values of their types.
-use Rattle.std.proofs.Common.{◌≡◌, ℕ, Bool, true, false, if◌then◌else◌, List, [], ◌∷◌, map, Option, Some, option_map, unwrap_or, refl, sym, ap, subst}
+use Rattle.std.proofs.Common.{◌≡◌, ℕ, Bool, true, false, if◌then◌else◌, List, [], ◌∷◌, map, Option, Some, None, option_map, unwrap_or, refl, sym, ap, subst}
 use Rattle.std.proofs.lemmas.Bool.{true≢false}
 use Rattle.px_value.specs.declared.value.Value.{Value}
 use Rattle.px_value.specs.declared.value.Value.TheVariants.{Null, Bool as Truth, Text}
@@ -37,7 +37,12 @@ use Rattle.px_semantics.proofs.TypedHere.{KeepsHere, then_here, shared_here, slo
 
 -- what a call gives to the expression around it
 abbrev pub GivesBack : Ty → List Object → Option Value → Type 0
-GivesBack t heap v = HasType heap t (unwrap_or v Null)
+GivesBack t heap None = t ≡ ty.Void
+GivesBack t heap (Some v) = HasType heap t v
+
+given_back : (heap : List Object) (t : Ty) (v : Option Value) → GivesBack t heap v → HasType heap t (unwrap_or v Null)
+given_back heap t None h = subst (λ (u : Ty). HasType heap u Null) (sym h) (typed.HasType.null ty.Void tt)
+given_back heap t (Some v) h = h
 
 -- a call of a method with values of the types of its slots gives a value of its result
 abbrev pub CallsKept : (Q W : Type 0) → Facts → (W → Type 0) → Calls Q W → Type 0
@@ -118,7 +123,7 @@ module _ (Q W : Type 0) (F : Facts) (I : W → Type 0) (slots : List Ty) (ask : 
       (shared_here Q W F I slots (Option Value) (GivesBack fact.result) heap (call_method calls method values)
       (then_there Q W F I (Anything ℕ) (GivesBack fact.result) heap (came_to (reference (value_at values 0))) (λ o. turn >>= (λ u. calls method values)) (reference_kept Q W F I heap (value_at values 0)) (λ later g o u.
       then_there Q W F I (Anything U) (GivesBack fact.result) later turn (λ u. calls method values) (turn_kept Q W F I later) (λ last l w x. kept method fact e last values (keep_both heap later last g l (ty.Object fact.class ∷ fact.params) values h)))))
-      (λ later g v h. value_here Q W F I slots later fact.result fact.result (unwrap_or v Null) refl h)
+      (λ later g v h. value_here Q W F I slots later fact.result fact.result (unwrap_or v Null) refl (given_back later fact.result v h))
     where
       keep_both : (a b c : List Object) → Grows a b → Grows b c → (ts : List Ty) (vs : List Value) → HaveTypes a ts vs → HaveTypes c ts vs
       keep_both a b c g l ts vs h = keep_types b c l ts vs (keep_types a b g ts vs h)

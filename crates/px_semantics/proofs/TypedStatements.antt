@@ -1,7 +1,6 @@
 -- Typed statements keep the heap and the locals typed.
-use Rattle.std.proofs.Common.{◌≡◌, ℕ, zero, suc, Bool, true, false, ◌||◌, if◌then◌else◌, List, map, Option, Some, None, unwrap_or, slice_get, refl, sym, ap, subst}
+use Rattle.std.proofs.Common.{◌≡◌, ℕ, zero, suc, Bool, true, false, ◌||◌, if◌then◌else◌, List, map, Option, Some, None, slice_get, refl, sym, ap, subst}
 use Rattle.px_value.specs.declared.value.Value.{Value}
-use Rattle.px_value.specs.declared.value.Value.TheVariants.{Null}
 use Rattle.px_value.specs.declared.object.Object.{Object}
 use Rattle.px_value.specs.declared.op.Op.{Op}
 use Rattle.px_value.specs.declared.op.Op.TheVariants as op
@@ -11,7 +10,6 @@ use Rattle.px_value.specs.Outcome.{Outcome, Gives, Throws, Asks, ◌>>=◌, pure
 use Rattle.px_tree.specs.declared.Expr.{Expr}
 use Rattle.px_tree.specs.declared.Stmt.{Stmt}
 use Rattle.px_facts.specs.declared.types.Ty.{Ty}
-use Rattle.px_facts.specs.declared.types.Ty.TheVariants as ty
 use Rattle.px_facts.specs.declared.checked.Named.{Named}
 use Rattle.px_facts.specs.declared.checked.Named.TheVariants as named
 use Rattle.px_facts.specs.declared.checked.Facts.{Facts}
@@ -32,7 +30,7 @@ use Rattle.px_semantics.proofs.TypedRuns.{Ended, gives, throws, either}
 use Rattle.px_semantics.proofs.TypedEffects.{U, OfType, Anything, turn_kept, print_kept}
 use Rattle.px_semantics.proofs.TypedOperators.{applies}
 use Rattle.px_semantics.proofs.TypedHere.{frame_kept, KeepsHere, then_here, shared_here, slot_here, assign_here, value_here, came_here, Always, fitted_run, Sound}
-use Rattle.px_semantics.proofs.TypedExpressions.{P, CallsKept, means_typed}
+use Rattle.px_semantics.proofs.TypedExpressions.{P, GivesBack, CallsKept, means_typed}
 
 module _ (Q W : Type 0) (F : Facts) (I : W → Type 0) (slots : List Ty) (ask : Ask Q W) (answers : AnswersTyped F ask I) (calls : Calls Q W) (kept : CallsKept Q W F I calls) (result : Ty) where
   abbrev says : Expr → Meant Q W
@@ -53,7 +51,7 @@ module _ (Q W : Type 0) (F : Facts) (I : W → Type 0) (slots : List Ty) (ask : 
   -- it goes on only where it can, and gives a value of the result
   abbrev pub Flows : Bool → List Object → Flow Value → Type 0
   Flows c heap Goes = c ≡ true
-  Flows c heap (Returns v) = HasType heap result (unwrap_or v Null)
+  Flows c heap (Returns v) = GivesBack result heap v
 
   abbrev pub Runs : Bool → Does Q W → Type 0
   Runs c r = (heap : List Object) → Keeping heap (Flow Value) r (Flows c)
@@ -61,8 +59,12 @@ module _ (Q W : Type 0) (F : Facts) (I : W → Type 0) (slots : List Ty) (ask : 
   went : (c : Bool) → c ≡ true → Runs c (pure Goes)
   went c e heap = gives Q (frame_kept F slots W I) (Flow Value) (Flows c) heap Goes (λ later g. e)
 
-  left_with : (c : Bool) (heap : List Object) (v : Option Value) → HasType heap result (unwrap_or v Null) → Keeping heap (Flow Value) (pure (Returns v)) (Flows c)
-  left_with c heap v h = gives Q (frame_kept F slots W I) (Flow Value) (Flows c) heap (Returns v) (λ later g. keeps_type heap later g result (unwrap_or v Null) h)
+  back_later : (heap later : List Object) → Grows heap later → (v : Option Value) → GivesBack result heap v → GivesBack result later v
+  back_later heap later g None h = h
+  back_later heap later g (Some v) h = keeps_type heap later g result v h
+
+  left_with : (c : Bool) (heap : List Object) (v : Option Value) → GivesBack result heap v → Keeping heap (Flow Value) (pure (Returns v)) (Flows c)
+  left_with c heap v h = gives Q (frame_kept F slots W I) (Flow Value) (Flows c) heap (Returns v) (λ later g. back_later heap later g v h)
 
   goes_kept : {A : Type 0} (R : List Object → A → Type 0) (r : Here Q W A) → ((heap : List Object) → Keeping heap A r R) → Runs true (goes r)
   goes_kept {A} R r h heap = bind R (Flows true) heap r (λ a. pure Goes) (h heap) (λ later g a k. went true refl later)
@@ -168,7 +170,7 @@ module _ (Q W : Type 0) (F : Facts) (I : W → Type 0) (slots : List Ty) (ask : 
         runs_by x true _ (done_for Q W (P Q W F I slots ask answers calls kept) result x begin begin test last last body body h refl refl refl)
         (one_then b true (does begin) (loop (says test).run (does body >>= goes_on (does last)) all_turns) (done_typed b begin i) (λ e.
         loop_kept (type_at F test.id) (says test).run c (does body >>= goes_on (does last)) (means test s).run (one_then d c (does body) (does last) (done_typed d body k) (λ f. done_typed c last j)) all_turns))
-    done_typed _ _ (typing.IsTypedStmt.leave x h e) = runs_by x false _ (done_return Q W (P Q W F I slots ask answers calls kept) result x None h) (λ heap. left_with false heap None (subst (λ (t : Ty). HasType heap t Null) (sym e) (typed.HasType.null ty.Void tt)))
+    done_typed _ _ (typing.IsTypedStmt.leave x h e) = runs_by x false _ (done_return Q W (P Q W F I slots ask answers calls kept) result x None h) (λ heap. left_with false heap None e)
     done_typed _ _ (typing.IsTypedStmt.give x value h f s) = runs_by x false _ (done_return Q W (P Q W F I slots ask answers calls kept) result x (Some value) h) (given (says value) (type_at F value.id) f (means value s))
     done_typed _ _ (typing.IsTypedStmt.print x value h s) =
         runs_by x true _ (done_print Q W (P Q W F I slots ask answers calls kept) result x value h) (goes_kept (Anything U) ((says value).run >>= (λ v. on_shared (print_line v))) (λ heap. bind (OfType (type_at F value.id)) (Anything U) heap (says value).run (λ v. on_shared (print_line v)) ((means value s).run heap) (λ later g v k. shared_here Q W F I slots U (Anything U) later (print_line v) (print_kept Q W F I later v))))

@@ -1,5 +1,5 @@
 -- What the world answers to a typed program, and what calls of it leave.
-use Rattle.std.specs.Prelude.{◌≡◌, ℕ, ◌<◌, Bool, true, List, [], ◌∷◌, length, map, Some, unwrap_or, slice_get}
+use Rattle.std.specs.Prelude.{◌≡◌, ℕ, ◌<◌, Bool, true, List, [], ◌∷◌, length, map, Some, None, unwrap_or, slice_get}
 use Rattle.px_value.specs.declared.object.Object.{Object}
 use Rattle.px_value.specs.declared.header.Kind.TheVariants as kind
 use Rattle.px_value.specs.declared.statement.Statement.{Statement}
@@ -72,10 +72,11 @@ pub record IsSessionHeap (F : Facts) (heap : List Object) : Type 0 where
   pub typed : IsTypedHeap F heap
   pub main : kind_at heap 0 ≡ Some (kind.Object F.main.class)
 
--- where the reply is a value, it has the type that the entry gives
+-- a value has the type that the entry gives, and nothing is replied by a void method alone
 abbrev pub HasReplyType : List Object → Entry → Reply → Type 0
 HasReplyType heap entry (reply.Value v) = HasType heap (given_type entry.gives) v
-HasReplyType heap entry _ = Unit {0}
+HasReplyType heap entry reply.Void = entry.gives ≡ None
+HasReplyType heap entry (reply.Threw t) = Unit {0}
 
 pub record IsTypedAfter {W : Type 0} (F : Facts) (I : W → Type 0) (entry : Entry) (c : Called W) : Type 0 where
   pub heap : IsSessionHeap F c.heap
