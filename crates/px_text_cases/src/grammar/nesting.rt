@@ -117,7 +117,7 @@ fn nesting_ends_at_a_hundred(rt: HostRuntime) -> Result<(), AllocError> {
         let most = text_of(rt.alloc(), &nest, nest.5)?;
         assert!(rt; most.len() < 9000);
         assert_eq!(rt; parse_line(rt.alloc(), &most)?, None, "at {most:?}");
-        let more = text_of(rt.alloc(), &nest, nest.5 + 1)?;
+        let more = text_of(rt.alloc(), &nest, nest.5.saturating_add(1))?;
         assert!(rt; more.len() < 9000);
         let line = Some(nest.6);
         assert_eq!(rt; refused_line(rt.alloc(), &more)?, line, "at {more:?}");

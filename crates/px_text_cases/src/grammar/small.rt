@@ -1,4 +1,6 @@
 //! The small language of `solo`: which texts are its programs, and how much is known of those that keep its rules.
+ghost use Rattle.std.specs.Prelude.{◌<◌, ◌^◌, length};
+
 use px_parse::{ParseError, parse};
 use px_types::{CheckError, check};
 use std::alloc::{AllocError, Global};
@@ -66,7 +68,9 @@ const TEXTS: [(&[u8], Found); 23] = [
     (b"class A { }", Faulty),
 ];
 
-fn found(alloc: Global, text: &[u8]) -> Result<Found, AllocError> {
+fn judged(alloc: Global, text: &[u8]) -> Result<Found, AllocError>
+    requires { length text.now < 2 ^ 31 }
+{
     let program = match parse(alloc, text) {
         Ok(program) => program,
         Err(ParseError::Syntax) => return Ok(NoProgram),
@@ -83,7 +87,7 @@ fn found(alloc: Global, text: &[u8]) -> Result<Found, AllocError> {
 fn small_programs_are_known(rt: HostRuntime) -> Result<(), AllocError> {
     for (text, want) in TEXTS {
         assert!(rt; text.len() < 1000);
-        assert_eq!(rt; found(rt.alloc(), text)?, want, "at {text:?}");
+        assert_eq!(rt; judged(rt.alloc(), text)?, want, "at {text:?}");
     }
     Ok(())
 }
