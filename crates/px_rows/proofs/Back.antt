@@ -8,7 +8,7 @@ use Rattle.px_value.specs.declared.statement.TableOp.{TableOp}
 use Rattle.px_rows.specs.Tables.{Row, Table, Tables, Place, Old, or_empty, row_at, put_row, with_row, undone}
 use Rattle.px_rows.specs.Means.{write_of, after_write, old_row, place_of, after, old_of, fed, olds_of}
 
-get-put_row : (t : Table) (k q : ℤ) (row : Option Row) → get (put_row k row t) q ≡ cond (eq_by_cmp int_cmp q k) row (get t q)
+pub get-put_row : (t : Table) (k q : ℤ) (row : Option Row) → get (put_row k row t) q ≡ cond (eq_by_cmp int_cmp q k) row (get t q)
 unfolding put_row
 get-put_row t k q None = get-remove int_cmp_total t k q
 get-put_row t k q (Some row) = get-insert int_cmp_total t k row q

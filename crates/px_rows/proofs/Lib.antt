@@ -4,3 +4,4 @@ pub mod Back
 pub mod Seen
 pub mod Does
 pub mod Left
+pub mod Types

@@ -164,7 +164,14 @@ impl Tables {
         ensures none_left { undo.new ≡ [] }
     {
         while let Some(past) = undo.pasts.pop() {
-            self.set(past.table, past.key, past.node);
+            self.put_back(past);
         }
+    }
+
+    fn put_back(&mut self, past: Past)
+        ensures { self.new ≡ with_row self.old past.place past.row }
+    {
+        let Past { table, key, node } = past;
+        self.set(table, key, node);
     }
 }
