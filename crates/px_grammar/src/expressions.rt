@@ -7,7 +7,7 @@ ghost use Rattle.px_grammar.specs.Heads as heads;
 use crate::error::ReadError;
 use crate::heads::{Head, Suffix, read_operator, read_prefix, read_suffix};
 use crate::lexeme::Word;
-use crate::signs::level;
+use crate::signs::right_level;
 use crate::source::Source;
 use crate::tokens::Tokens;
 use px_tree::Expr;
@@ -151,7 +151,7 @@ impl Source<'_> {
         match read_operator(tokens, least)? {
             Some(operator) => {
                 let first = self.operand(tokens)?;
-                let right = self.operators(tokens, level(operator.sign) + 1, first)?;
+                let right = self.operators(tokens, right_level(operator.sign), first)?;
                 let both = self.binary(operator.sign, operator.at, left, right)?;
                 self.operators(tokens, least, both)
             }

@@ -1,5 +1,5 @@
 //! Words as operators.
-ghost use Rattle.std.specs.Prelude.{◌≡◌, ◌≤◌};
+ghost use Rattle.std.specs.Prelude.{◌≡◌, ◌+◌, ◌≤◌};
 ghost use Rattle.px_grammar.specs.Words as spec;
 ghost use Rattle.px_grammar.specs.Reading.{cast_to};
 
@@ -51,6 +51,13 @@ pub fn level(sign: Sign) -> u32
         Sign::Plus | Sign::Minus => 9,
         _ => 10,
     }
+}
+
+/// How tightly at least the operators of a right operand bind: those of one level are joined from the left.
+pub fn right_level(sign: Sign) -> u32
+    ensures { result ≡ spec.level sign + 1 }
+{
+    level(sign) + 1
 }
 
 /// Before an operand.

@@ -66,13 +66,13 @@ pub operators-returns-in_err-right-in-Some-clause-turns : goal.operators-returns
 operators-returns-in_err-right-in-Some-clause-turns t c = λ n m a b.
     operators_by c.args.self.now.bytes.now m (expression c.args.self.now.bytes.now n) c.args.least c.args.left c.args.tokens.now.left.now c.from_residual-in_err-right-in-Some.result _ b (λ k h.
     goes_on (operand c.args.self.now.bytes.now (expression c.args.self.now.bytes.now n) k c.read_operator.new.tokens.left.now) _ _ c.in_ok-first-in-Some.first c.operand.new.tokens.left.now c.from_residual-in_err-right-in-Some.result _ (c.in_ok-operator.ensures.leads (operand c.args.self.now.bytes.now (expression c.args.self.now.bytes.now n) k) (operators c.args.self.now.bytes.now (expression c.args.self.now.bytes.now n) k) c.args.left ∙ ap (λ x. behind_operator (operand c.args.self.now.bytes.now (expression c.args.self.now.bytes.now n) k) (operators c.args.self.now.bytes.now (expression c.args.self.now.bytes.now n) k) c.args.least c.args.left x c.read_operator.new.tokens.left.now) c.in-Some.is) (c.in_ok-first-in-Some.ensures.turns n k (omega (arith, a, on_some c.in_ok-operator.field-0 c.in-Some.operator (length c.read_operator.new.tokens.left.now < length c.args.tokens.now.left.now) c.in-Some.is c.in_ok-operator.ensures.fewer)) (omega (arith, h, on_some c.in_ok-operator.field-0 c.in-Some.operator (length c.read_operator.new.tokens.left.now < length c.args.tokens.now.left.now) c.in-Some.is c.in_ok-operator.ensures.fewer)))
-    (exits c.in_err-right-in-Some.field-0.0 (operators c.args.self.now.bytes.now (expression c.args.self.now.bytes.now n) k (c.level.result + 1) c.in_ok-first-in-Some.first c.operand.new.tokens.left.now) _ _ c.from_residual-in_err-right-in-Some.result _ c.from_residual-in_err-right-in-Some.ensures.1 (c.in_err-right-in-Some.ensures.turns n k (omega (arith, a, c.in_ok-first-in-Some.ensures.fewer, on_some c.in_ok-operator.field-0 c.in-Some.operator (length c.read_operator.new.tokens.left.now < length c.args.tokens.now.left.now) c.in-Some.is c.in_ok-operator.ensures.fewer)) (omega (arith, h, c.in_ok-first-in-Some.ensures.fewer, on_some c.in_ok-operator.field-0 c.in-Some.operator (length c.read_operator.new.tokens.left.now < length c.args.tokens.now.left.now) c.in-Some.is c.in_ok-operator.ensures.fewer))) (ap (λ l. and_then (operators c.args.self.now.bytes.now (expression c.args.self.now.bytes.now n) k (l + 1) c.in_ok-first-in-Some.first c.operand.new.tokens.left.now) (λ whole. operators c.args.self.now.bytes.now (expression c.args.self.now.bytes.now n) k c.args.least (binary_of c.in-Some.operator.sign c.in-Some.operator.at c.args.left whole))) (sym c.level.ensures.level))))
+    (exits c.in_err-right-in-Some.field-0.0 (operators c.args.self.now.bytes.now (expression c.args.self.now.bytes.now n) k c.right_level.result c.in_ok-first-in-Some.first c.operand.new.tokens.left.now) _ _ c.from_residual-in_err-right-in-Some.result _ c.from_residual-in_err-right-in-Some.ensures.1 (c.in_err-right-in-Some.ensures.turns n k (omega (arith, a, c.in_ok-first-in-Some.ensures.fewer, on_some c.in_ok-operator.field-0 c.in-Some.operator (length c.read_operator.new.tokens.left.now < length c.args.tokens.now.left.now) c.in-Some.is c.in_ok-operator.ensures.fewer)) (omega (arith, h, c.in_ok-first-in-Some.ensures.fewer, on_some c.in_ok-operator.field-0 c.in-Some.operator (length c.read_operator.new.tokens.left.now < length c.args.tokens.now.left.now) c.in-Some.is c.in_ok-operator.ensures.fewer))) (ap (λ l. and_then (operators c.args.self.now.bytes.now (expression c.args.self.now.bytes.now n) k l c.in_ok-first-in-Some.first c.operand.new.tokens.left.now) (λ whole. operators c.args.self.now.bytes.now (expression c.args.self.now.bytes.now n) k c.args.least (binary_of c.in-Some.operator.sign c.in-Some.operator.at c.args.left whole))) (sym c.right_level.ensures))))
 
 pub operators-returns-in_ok-both-in-Some-clause-turns : goal.operators-returns-in_ok-both-in-Some-clause-turns
 operators-returns-in_ok-both-in-Some-clause-turns t c = λ n m a b.
     operators_by c.args.self.now.bytes.now m (expression c.args.self.now.bytes.now n) c.args.least c.args.left c.args.tokens.now.left.now c.operators-in-Some.result _ b (λ k h.
     goes_on (operand c.args.self.now.bytes.now (expression c.args.self.now.bytes.now n) k c.read_operator.new.tokens.left.now) _ _ c.in_ok-first-in-Some.first c.operand.new.tokens.left.now c.operators-in-Some.result _ (c.in_ok-operator.ensures.leads (operand c.args.self.now.bytes.now (expression c.args.self.now.bytes.now n) k) (operators c.args.self.now.bytes.now (expression c.args.self.now.bytes.now n) k) c.args.left ∙ ap (λ x. behind_operator (operand c.args.self.now.bytes.now (expression c.args.self.now.bytes.now n) k) (operators c.args.self.now.bytes.now (expression c.args.self.now.bytes.now n) k) c.args.least c.args.left x c.read_operator.new.tokens.left.now) c.in-Some.is) (c.in_ok-first-in-Some.ensures.turns n k (omega (arith, a, on_some c.in_ok-operator.field-0 c.in-Some.operator (length c.read_operator.new.tokens.left.now < length c.args.tokens.now.left.now) c.in-Some.is c.in_ok-operator.ensures.fewer)) (omega (arith, h, on_some c.in_ok-operator.field-0 c.in-Some.operator (length c.read_operator.new.tokens.left.now < length c.args.tokens.now.left.now) c.in-Some.is c.in_ok-operator.ensures.fewer)))
-    (goes_on (operators c.args.self.now.bytes.now (expression c.args.self.now.bytes.now n) k (c.level.result + 1) c.in_ok-first-in-Some.first c.operand.new.tokens.left.now) _ _ c.in_ok-right-in-Some.right c.operators.new.tokens.left.now c.operators-in-Some.result _ (ap (λ l. and_then (operators c.args.self.now.bytes.now (expression c.args.self.now.bytes.now n) k (l + 1) c.in_ok-first-in-Some.first c.operand.new.tokens.left.now) (λ whole. operators c.args.self.now.bytes.now (expression c.args.self.now.bytes.now n) k c.args.least (binary_of c.in-Some.operator.sign c.in-Some.operator.at c.args.left whole))) (sym c.level.ensures.level)) (c.in_ok-right-in-Some.ensures.turns n k (omega (arith, a, c.in_ok-first-in-Some.ensures.fewer, on_some c.in_ok-operator.field-0 c.in-Some.operator (length c.read_operator.new.tokens.left.now < length c.args.tokens.now.left.now) c.in-Some.is c.in_ok-operator.ensures.fewer)) (omega (arith, h, c.in_ok-first-in-Some.ensures.fewer, on_some c.in_ok-operator.field-0 c.in-Some.operator (length c.read_operator.new.tokens.left.now < length c.args.tokens.now.left.now) c.in-Some.is c.in_ok-operator.ensures.fewer)))
+    (goes_on (operators c.args.self.now.bytes.now (expression c.args.self.now.bytes.now n) k c.right_level.result c.in_ok-first-in-Some.first c.operand.new.tokens.left.now) _ _ c.in_ok-right-in-Some.right c.operators.new.tokens.left.now c.operators-in-Some.result _ (ap (λ l. and_then (operators c.args.self.now.bytes.now (expression c.args.self.now.bytes.now n) k l c.in_ok-first-in-Some.first c.operand.new.tokens.left.now) (λ whole. operators c.args.self.now.bytes.now (expression c.args.self.now.bytes.now n) k c.args.least (binary_of c.in-Some.operator.sign c.in-Some.operator.at c.args.left whole))) (sym c.right_level.ensures)) (c.in_ok-right-in-Some.ensures.turns n k (omega (arith, a, c.in_ok-first-in-Some.ensures.fewer, on_some c.in_ok-operator.field-0 c.in-Some.operator (length c.read_operator.new.tokens.left.now < length c.args.tokens.now.left.now) c.in-Some.is c.in_ok-operator.ensures.fewer)) (omega (arith, h, c.in_ok-first-in-Some.ensures.fewer, on_some c.in_ok-operator.field-0 c.in-Some.operator (length c.read_operator.new.tokens.left.now < length c.args.tokens.now.left.now) c.in-Some.is c.in_ok-operator.ensures.fewer)))
     (gives_as _ _ c.operators-in-Some.result _ (ap (λ e. operators c.args.self.now.bytes.now (expression c.args.self.now.bytes.now n) k c.args.least e c.operators.new.tokens.left.now) (sym c.in_ok-both-in-Some.ensures)) (c.operators-in-Some.ensures.turns n k (omega (arith, a, c.in_ok-right-in-Some.ensures.left, c.in_ok-first-in-Some.ensures.fewer, on_some c.in_ok-operator.field-0 c.in-Some.operator (length c.read_operator.new.tokens.left.now < length c.args.tokens.now.left.now) c.in-Some.is c.in_ok-operator.ensures.fewer)) (omega (arith, h, c.in_ok-right-in-Some.ensures.left, c.in_ok-first-in-Some.ensures.fewer, on_some c.in_ok-operator.field-0 c.in-Some.operator (length c.read_operator.new.tokens.left.now < length c.args.tokens.now.left.now) c.in-Some.is c.in_ok-operator.ensures.fewer))))))
 
 pub operators-returns-in-None-clause-turns : goal.operators-returns-in-None-clause-turns
