@@ -22,8 +22,7 @@ impl Source<'_> {
         ensures fewer { OnOk result (length tokens.new.left.now < length tokens.old.left.now) }
     {
         let inner = self.expression(tokens)?;
-        tokens.expect(word)?;
-        Ok(inner)
+        tokens.ended(word, inner)
     }
 
     #[cycle(expression)]

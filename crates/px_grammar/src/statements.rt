@@ -58,8 +58,7 @@ impl Source<'_> {
             Ok(return_of(x, None))
         } else {
             let value = self.expression(tokens)?;
-            tokens.expect(Word::Semicolon)?;
-            Ok(return_of(x, Some(value)))
+            tokens.ended(Word::Semicolon, return_of(x, Some(value)))
         }
     }
 
@@ -75,9 +74,8 @@ impl Source<'_> {
         tokens.take()?;
         tokens.take()?;
         let value = self.expression(tokens)?;
-        tokens.expect(Word::Close)?;
-        tokens.expect(Word::Semicolon)?;
-        Ok(print_of(system, value))
+        let value = tokens.ended(Word::Close, value)?;
+        tokens.ended(Word::Semicolon, print_of(system, value))
     }
 
     #[tactic(auto, unfolding(crate::specs::Reading::ended_by_semicolon))]
