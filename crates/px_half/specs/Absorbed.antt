@@ -156,6 +156,12 @@ in_control plan t m heap =
     let frames = with_frames plan t m.frames in
     record { heap = with_cells t.updates.cells heap; frames = frames; base = length frames; marks = []; named = [] }
 
+-- the machine with these cells, slots and frames
+abbrev pub taken_in : List CellAt → List SlotAt → List Frame → List Object → Machine
+taken_in cells slots stack heap =
+    let frames = map settled_frame (with_slots slots stack) in
+    record { heap = with_cells cells heap; frames = frames; base = length frames; marks = []; named = [] }
+
 abbrev pub transferred : Plan → TransferTold → Machine → List Object → Option Machine
 transferred plan t m heap = if slots_fit plan t m.frames heap then Some (in_control plan t m heap) else None
 

@@ -217,11 +217,11 @@ impl Half {
         })
     }
 
-    /// Takes in a message of the other end. After want of memory only `roll_back` may follow.
+    /// Takes in a message of the other end, or leaves all as it was.
     pub fn absorb(&mut self, alloc: Global, bytes: &[u8]) -> Result<(), AbsorbError>
         ensures ok { OnOk result (IsAbsorbed bytes.now self.old self.new) }
         ensures bad { IfBad result (IsRefused bytes.now self.old) }
-        ensures kept { IfBad result (self.new ≡ self.old) }
+        ensures kept { OnErr result (self.new ≡ self.old) }
         ensures closed { self.new.closed ≡ self.old.closed }
         ensures same { IsSameEnd self.old self.new }
     {
@@ -234,7 +234,7 @@ impl Half {
     fn take(&mut self, alloc: Global, message: &Message) -> Result<(), AbsorbError>
         ensures ok { OnOk result (absorbed message.now self.old ≡ Some self.new) }
         ensures bad { IfBad result (absorbed message.now self.old ≡ None) }
-        ensures kept { IfBad result (self.new ≡ self.old) }
+        ensures kept { OnErr result (self.new ≡ self.old) }
         ensures closed { self.new.closed ≡ self.old.closed }
         ensures same { IsSameEnd self.old self.new }
     {

@@ -1,13 +1,13 @@
 //! What an end takes in of a message.
-ghost use Rattle.std.specs.Prelude.{◌≡◌, ◌++◌, map, length, IfOk, OnOk};
+ghost use Rattle.std.specs.Prelude.{◌≡◌, ◌≤◌, ◌+◌, ◌++◌, map, take, length, vec_len, vec_capacity, IfOk};
 ghost use Rattle.px_half.specs.Undo.{undone};
-ghost use Rattle.px_half.specs.Absorbed.{leads as leads_to, cell_fits as cell_is_there, cells_fit as cells_are_there, with_cells, frame_fits as frame_is_there, blank_slots as blank_slots_of, blank_frame, blank_count as blank_count_of, slot_count as slot_count_of, slot_fits as slot_is_there, slots_fit as slots_are_there, with_slots, with_frames, settled_frame, stack_fits as stack_is_there};
+ghost use Rattle.px_half.specs.Absorbed.{leads as leads_to, cell_fits as cell_is_there, cells_fit as cells_are_there, with_cells, frame_fits as frame_is_there, blank_slots as blank_slots_of, blank_frame, blank_count as blank_count_of, slot_count as slot_count_of, slot_fits as slot_is_there, slots_fit as slots_are_there, with_slots, settled_frame, stack_fits as stack_is_there};
 ghost use Rattle.std.specs.Option.{option_copied};
 ghost use Rattle.std.specs.List.{list_all};
 
 use crate::entering::{push_blanks, root_slots};
 use crate::stack::fill;
-use crate::undo::{Change, write};
+use crate::undo::{Change, write_reserved};
 use px_code::{Frame, Plan, Slots};
 use px_value::{Heap, Value};
 use px_wire::{CellAt, SlotAt, Transfer};
@@ -43,20 +43,36 @@ pub fn cells_fit(heap: &Heap, cells: &[CellAt]) -> bool
     true
 }
 
-pub fn write_cells(
-    alloc: Global,
-    heap: &mut Heap,
-    undo: &mut Vec<Change>,
-    cells: &[CellAt],
-) -> Result<(), AllocError>
-    ensures written { OnOk result (heap.new ≡ with_cells cells.now heap.old) }
+/// Cells in memory of their own, so that writing them takes none.
+pub fn copied_cells(alloc: Global, cells: &[CellAt]) -> Result<Vec<CellAt>, AllocError>
+    ensures { IfOk result (λ copies. copies.items ≡ cells.now) }
+{
+    let mut copies = Vec::new(alloc);
+    for cell in cells {
+        let value = cell.value.copy(alloc)?;
+        copies.push(CellAt {
+            object: cell.object,
+            index: cell.index,
+            value,
+        })?;
+    }
+    Ok(copies)
+}
+
+/// Writes cells, where the undo has room to note what stood in them.
+pub fn write_cells(heap: &mut Heap, undo: &mut Vec<Change>, cells: Vec<CellAt>)
+    requires room { vec_len undo.old + length cells.items ≤ vec_capacity undo.old }
+    ensures written { heap.new ≡ with_cells cells.items heap.old }
     ensures undone { undone undo.new.items heap.new ≡ undone undo.old.items heap.old }
 {
     for cell in cells {
-        let value = cell.value.copy(alloc)?;
-        write(heap, undo, cell.object, cell.index, value)?;
+        let CellAt {
+            object,
+            index,
+            value,
+        } = cell;
+        write_reserved(heap, undo, object, index, value);
     }
-    Ok(())
 }
 
 // ---- the stack
@@ -159,14 +175,15 @@ fn blank_slots(alloc: Global, plan: &Plan, method: u16) -> Result<Slots, AllocEr
     Ok(slots)
 }
 
-fn push_frames(
+/// The frames that a message brings.
+pub fn blank_frames(
     alloc: Global,
     plan: &Plan,
-    frames: &mut Vec<Frame>,
     told: &[px_wire::Frame],
-) -> Result<(), AllocError>
-    ensures { OnOk result (frames.new.items ≡ frames.old.items ++ map (blank_frame plan.now) told.now) }
+) -> Result<Vec<Frame>, AllocError>
+    ensures { IfOk result (λ frames. frames.items ≡ map (blank_frame plan.now) told.now) }
 {
+    let mut frames = Vec::new(alloc);
     for frame in told {
         let slots = blank_slots(alloc, plan, frame.method)?;
         frames.push(Frame {
@@ -175,17 +192,45 @@ fn push_frames(
             slots,
         })?;
     }
-    Ok(())
+    Ok(frames)
 }
 
-fn fill_slots(alloc: Global, frames: &mut Vec<Frame>, slots: &[SlotAt]) -> Result<(), AllocError>
-    ensures { OnOk result (frames.new.items ≡ with_slots slots.now frames.old.items) }
+/// Slots in memory of their own, so that filling them takes none.
+pub fn copied_slots(alloc: Global, slots: &[SlotAt]) -> Result<Vec<SlotAt>, AllocError>
+    ensures { IfOk result (λ copies. copies.items ≡ slots.now) }
 {
+    let mut copies = Vec::new(alloc);
     for slot in slots {
         let value = slot.value.copy(alloc)?;
-        fill(frames, usize::from(slot.frame), slot.slot, value);
+        copies.push(SlotAt {
+            frame: slot.frame,
+            slot: slot.slot,
+            value,
+        })?;
     }
-    Ok(())
+    Ok(copies)
+}
+
+fn put_frames(frames: &mut Vec<Frame>, more: Vec<Frame>)
+    requires { vec_len frames.old + length more.items ≤ vec_capacity frames.old }
+    ensures { frames.new.items ≡ frames.old.items ++ more.items }
+{
+    for frame in more {
+        frames.push_reserved(frame);
+    }
+}
+
+fn fill_slots(frames: &mut Vec<Frame>, slots: Vec<SlotAt>)
+    ensures { frames.new.items ≡ with_slots slots.items frames.old.items }
+{
+    for slot in slots {
+        let SlotAt {
+            frame,
+            slot: place,
+            value,
+        } = slot;
+        fill(frames, usize::from(frame), place, value);
+    }
 }
 
 fn settle(frames: &mut Vec<Frame>)
@@ -196,18 +241,13 @@ fn settle(frames: &mut Vec<Frame>)
     }
 }
 
-/// The lowest frames stay, and those of the message stand on them.
-pub fn take_frames(
-    alloc: Global,
-    plan: &Plan,
-    frames: &mut Vec<Frame>,
-    transfer: &Transfer,
-) -> Result<(), AllocError>
-    ensures { OnOk result (frames.new.items ≡ with_frames plan.now transfer.now frames.old.items) }
+/// The lowest frames stay, and more of them stand on these, where there is room for them; then slots are filled.
+pub fn take_frames(frames: &mut Vec<Frame>, base: usize, more: Vec<Frame>, slots: Vec<SlotAt>)
+    requires { vec_len frames.old + length more.items ≤ vec_capacity frames.old }
+    ensures { frames.new.items ≡ map settled_frame (with_slots slots.items (take base frames.old.items ++ more.items)) }
 {
-    frames.truncate(usize::from(transfer.base));
-    push_frames(alloc, plan, frames, transfer.frames.as_slice())?;
-    fill_slots(alloc, frames, transfer.slots.as_slice())?;
+    frames.truncate(base);
+    put_frames(frames, more);
+    fill_slots(frames, slots);
     settle(frames);
-    Ok(())
 }

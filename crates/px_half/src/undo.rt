@@ -1,5 +1,5 @@
 //! What was changed in a heap, so that it can be taken back.
-ghost use Rattle.std.specs.Prelude.{◌≡◌, ◌++◌, ◌∷◌, [], length, OnOk, OnErr};
+ghost use Rattle.std.specs.Prelude.{◌≡◌, ◌≤◌, ◌<◌, ◌+◌, ◌++◌, ◌∷◌, [], length, vec_len, vec_capacity, OnOk, OnErr};
 ghost use Rattle.px_value.specs.Heap.{written};
 ghost use Rattle.px_half.specs.Undo.{undone, undo_one};
 ghost use Rattle.px_half.specs.declared.undo.Change.TheVariants.{Made};
@@ -27,10 +27,27 @@ pub fn write(
     ensures undone { undone undo.new.items heap.new ≡ undone undo.old.items heap.old }
 {
     undo.reserve(1)?;
+    write_reserved(heap, undo, object, index, value);
+    Ok(())
+}
+
+/// Writes a cell, where the undo has room to note what stood in it.
+pub fn write_reserved(
+    heap: &mut Heap,
+    undo: &mut Vec<Change>,
+    object: u32,
+    index: u32,
+    value: Value,
+)
+    requires room { vec_len undo.old < vec_capacity undo.old }
+    ensures written { heap.new ≡ written heap.old object index value }
+    ensures undone { undone undo.new.items heap.new ≡ undone undo.old.items heap.old }
+    ensures len { vec_len undo.new ≤ vec_len undo.old + 1 }
+    ensures capacity { vec_capacity undo.new ≡ vec_capacity undo.old }
+{
     if let Some(old) = heap.set(object, index, value) {
         undo.push_reserved(Change::Wrote { object, index, old });
     }
-    Ok(())
 }
 
 /// Adds an object.
