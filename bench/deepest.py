@@ -1,12 +1,14 @@
 #!/usr/bin/env python3
 """Runs the deepest programs under the limits: each shape of nesting at the most that `check` takes, in each of 200 frames.
 
-Usage: bench/deepest.py [PYXIS]. Each must be served with the default stack of the process cut down to 1 MiB."""
+Usage: bench/deepest.py [PYXIS]. Each must be served with the default stack of the process cut down to 1 MiB, by the thread with a large one.
+For each it also tells how much the process's own stack needs where there can be no thread: as nobody, allowed no other process or thread."""
+import os
 import subprocess
 import sys
 import tempfile
 
-PYXIS = sys.argv[1] if len(sys.argv) > 1 else "crates/px_main/out/px_main"
+PYXIS = os.path.abspath(sys.argv[1] if len(sys.argv) > 1 else "crates/px_main/out/px_main")
 
 
 def program(body, member=""):
@@ -26,14 +28,33 @@ SHAPES = {
 }
 
 
-def run(words, stack=None):
-    limit = f"ulimit -s {stack}; " if stack else ""
-    return subprocess.run(limit + " ".join(words), shell=True, executable="/bin/bash", capture_output=True)
+# As nobody where we are root, whom no limit of threads holds.
+DROP = ["setpriv", "--reuid=65534", "--regid=65534", "--clear-groups"] if os.geteuid() == 0 else []
+
+STACKS = [8, 16, 32, 64, 128, 256]
+
+
+def run(words, limits="", drop=()):
+    return subprocess.run([*drop, "bash", "-c", f'ulimit -c 0; {limits} exec "$@"', "", *words], capture_output=True)
+
+
+def is_served(done):
+    replies = [line.split(b" ", 3)[3] for line in done.stdout.splitlines() if line.startswith(b"call ")]
+    return done.returncode == 0 and len(replies) == 3 and not replies[1].startswith(b"threw") and replies[2] == b"threw StackOverflowError"
+
+
+def alone(words):
+    """The least of the stacks with which it is served in its own thread."""
+    for mib in STACKS:
+        if is_served(run(words, f"ulimit -u 1; ulimit -s {mib * 1024};", DROP)):
+            return f"{mib} MiB"
+    return f"more than {STACKS[-1]} MiB"
 
 
 def main():
     failed = 0
     with tempfile.TemporaryDirectory() as folder:
+        os.chmod(folder, 0o755)
         path, job = folder + "/program", folder + "/job"
         with open(job, "w") as file:
             file.write("call 1 f 198\ncall 1 f 199\ncall 1 f 250\n")
@@ -43,11 +64,11 @@ def main():
                     file.write(shape(most))
                 if run([PYXIS, "check", path]).returncode == 0:
                     break
-            done = run([PYXIS, "run", path, job], stack=1024)
-            replies = [line.split(b" ", 3)[3] for line in done.stdout.splitlines() if line.startswith(b"call ")]
-            good = done.returncode == 0 and len(replies) == 3 and not replies[1].startswith(b"threw") and replies[2] == b"threw StackOverflowError"
+            words = [PYXIS, "run", path, job]
+            done = run(words, "ulimit -s 1024;")
+            good = is_served(done)
             failed += not good
-            print(f"{name}: {most} deep, {'served' if good else 'FAILED ' + repr(done)}")
+            print(f"{name}: {most} deep, {'served' if good else 'FAILED ' + repr(done)}; without a thread it takes {alone(words)}", flush=True)
     sys.exit(failed > 0)
 
 
