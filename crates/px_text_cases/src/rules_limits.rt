@@ -183,20 +183,28 @@ fn at_its_edge(rt: &impl Abort, alloc: Global, text: String, wanted: Found) -> R
     Ok(())
 }
 
-#[test]
-fn parts_have_limits(rt: HostRuntime) -> Result<(), Fail> {
-    for case in &NUMBERED {
-        let text = numbered(rt.alloc(), case)?;
-        at_its_edge(&rt, rt.alloc(), text, case.5)?;
+fn all_numbered(rt: &impl Abort, alloc: Global, cases: &[Long]) -> Result<(), Fail> {
+    for case in cases {
+        let text = numbered(alloc, case)?;
+        at_its_edge(rt, alloc, text, case.5)?;
+    }
+    Ok(())
+}
+
+fn all_lettered(rt: &impl Abort, alloc: Global, cases: &[Letters]) -> Result<(), Fail> {
+    for case in cases {
+        let text = lettered(alloc, case)?;
+        at_its_edge(rt, alloc, text, case.3)?;
     }
     Ok(())
 }
 
 #[test]
+fn parts_have_limits(rt: HostRuntime) -> Result<(), Fail> {
+    all_numbered(&rt, rt.alloc(), &NUMBERED)
+}
+
+#[test]
 fn literals_have_limits(rt: HostRuntime) -> Result<(), Fail> {
-    for case in &LETTERS {
-        let text = lettered(rt.alloc(), case)?;
-        at_its_edge(&rt, rt.alloc(), text, case.3)?;
-    }
-    Ok(())
+    all_lettered(&rt, rt.alloc(), &LETTERS)
 }

@@ -1,6 +1,4 @@
 //! Which texts mean which statement of SQL, and which tables may be declared.
-ghost use Rattle.std.specs.Prelude.{IfOk};
-
 use px_grammar::parse;
 use px_sql::{SchemaError, is_select, parameters, read_schema, read_statement};
 use px_value::{ColumnType, Schema, Statement};
@@ -210,15 +208,15 @@ fn means(rt: &impl Abort, alloc: Global, schema: &Schema, case: &Case) -> Result
     Ok(())
 }
 
-fn all_mean(rt: &impl Abort, alloc: Global, schema: &Schema) -> Result<(), Fail> {
-    for case in &MEANT {
+fn all_mean(rt: &impl Abort, alloc: Global, schema: &Schema, cases: &[Case]) -> Result<(), Fail> {
+    for case in cases {
         means(rt, alloc, schema, case)?;
     }
     Ok(())
 }
 
-fn none_means(rt: &impl Abort, alloc: Global, schema: &Schema) -> Result<(), Fail> {
-    for text in &MEANINGLESS {
+fn none_means(rt: &impl Abort, alloc: Global, schema: &Schema, texts: &[&str]) -> Result<(), Fail> {
+    for text in texts {
         assert!(rt;
             read_statement(alloc, schema, text.as_bytes())?.is_none(),
             "{text:?}"
@@ -230,8 +228,8 @@ fn none_means(rt: &impl Abort, alloc: Global, schema: &Schema) -> Result<(), Fai
 #[test]
 fn texts_mean_statements(rt: HostRuntime) -> Result<(), Fail> {
     let schema = declared(rt.alloc(), TABLES)??;
-    all_mean(&rt, rt.alloc(), &schema)?;
-    none_means(&rt, rt.alloc(), &schema)
+    all_mean(&rt, rt.alloc(), &schema, &MEANT)?;
+    none_means(&rt, rt.alloc(), &schema, &MEANINGLESS)
 }
 
 fn long_select(alloc: Global, columns: usize) -> Result<Vec<u8>, AllocError> {
@@ -255,11 +253,15 @@ fn a_list_is_bounded(rt: HostRuntime) -> Result<(), Fail> {
     Ok(())
 }
 
-#[test]
-fn tables_keep_a_rule(rt: HostRuntime) -> Result<(), Fail> {
-    for (text, wanted) in &DECLARED {
-        let found = first_bad(rt.alloc(), text)?;
+fn all_declared(rt: &impl Abort, alloc: Global, cases: &[(&str, Option<u32>)]) -> Result<(), Fail> {
+    for (text, wanted) in cases {
+        let found = first_bad(alloc, text)?;
         assert_eq!(rt; found, *wanted, "{text}");
     }
     Ok(())
+}
+
+#[test]
+fn tables_keep_a_rule(rt: HostRuntime) -> Result<(), Fail> {
+    all_declared(&rt, rt.alloc(), &DECLARED)
 }
