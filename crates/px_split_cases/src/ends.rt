@@ -149,17 +149,13 @@ fn plans(alloc: Global) -> Result<Plans, AllocError> {
     Ok(Arc::new(alloc, plans)?)
 }
 
-// Whether an end takes bytes at the begin of a call, which is then rolled back.
-fn is_taken(alloc: Global, half: &mut Half, bytes: &[u8]) -> Result<bool, AllocError>
-    requires side { half.old.side ≡ Db }
-    requires closed { half.old.in_call ≡ false }
-    ensures side { half.new.side ≡ Db }
-    ensures closed { half.new.in_call ≡ false }
-{
+// Whether a new end takes bytes at the begin of a call.
+fn is_taken(alloc: Global, plans: &Plans, bytes: &[u8]) -> Result<bool, AllocError> {
+    let Some(mut half) = new_end(alloc, plans)? else {
+        return Ok(false);
+    };
     half.attend();
-    let taken = half.absorb(alloc, bytes);
-    half.roll_back();
-    match taken {
+    match half.absorb(alloc, bytes) {
         Ok(()) => Ok(true),
         Err(AbsorbError::BadMessage) => Ok(false),
         Err(AbsorbError::NoMemory) => Err(AllocError),
@@ -167,22 +163,19 @@ fn is_taken(alloc: Global, half: &mut Half, bytes: &[u8]) -> Result<bool, AllocE
 }
 
 // The name of the first case that is taken where it should not be, or isn't where it should.
-fn first_wrong(alloc: Global, half: &mut Half) -> Result<Option<&'static str>, AllocError>
-    requires side { half.old.side ≡ Db }
-    requires closed { half.old.in_call ≡ false }
-    ensures side { half.new.side ≡ Db }
-    ensures closed { half.new.in_call ≡ false }
-{
+fn first_wrong(alloc: Global, plans: &Plans) -> Result<Option<&'static str>, AllocError> {
     for (name, there, missing) in PAIRS {
         let there = hex(alloc, there)?;
         let missing = hex(alloc, missing)?;
-        if !is_taken(alloc, half, there.as_slice())? || is_taken(alloc, half, missing.as_slice())? {
+        if !is_taken(alloc, plans, there.as_slice())?
+            || is_taken(alloc, plans, missing.as_slice())?
+        {
             return Ok(Some(name));
         }
     }
     for (name, bytes) in NEVER {
         let bytes = hex(alloc, bytes)?;
-        if is_taken(alloc, half, bytes.as_slice())? {
+        if is_taken(alloc, plans, bytes.as_slice())? {
             return Ok(Some(name));
         }
     }
@@ -192,10 +185,8 @@ fn first_wrong(alloc: Global, half: &mut Half) -> Result<Option<&'static str>, A
 #[test]
 fn what_is_not_there_is_refused(rt: HostRuntime) -> Result<(), Fail> {
     let alloc = rt.alloc();
-    match new_end(alloc, &plans(alloc)?)? {
-        Some(mut half) => assert_eq!(rt; first_wrong(alloc, &mut half)?, None),
-        None => assert!(rt; false),
-    }
+    let plans = plans(alloc)?;
+    assert_eq!(rt; first_wrong(alloc, &plans)?, None);
     Ok(())
 }
 
@@ -211,40 +202,37 @@ fn names_what_is_there(place: usize, byte: u8) -> bool {
     }
 }
 
+// The bytes with another one at a place.
+fn changed(alloc: Global, bytes: &[u8], place: usize, byte: u8) -> Result<Vec<u8>, AllocError> {
+    let mut copy = Vec::new(alloc);
+    for (at, old) in bytes.iter().enumerate() {
+        copy.push(if at == place { byte } else { *old })?;
+    }
+    Ok(copy)
+}
+
 // The first place and byte where a changed message is taken and should not be, or the other way round.
 fn first_damaged(
     alloc: Global,
-    half: &mut Half,
-    bytes: &mut Vec<u8>,
-) -> Result<Option<(usize, u8)>, AllocError>
-    requires side { half.old.side ≡ Db }
-    requires closed { half.old.in_call ≡ false }
-    ensures side { half.new.side ≡ Db }
-    ensures closed { half.new.in_call ≡ false }
-{
-    for place in 0..bytes.len() {
-        let right = bytes[place];
+    plans: &Plans,
+    bytes: &[u8],
+) -> Result<Option<(usize, u8)>, AllocError> {
+    for (place, right) in bytes.iter().enumerate() {
         for byte in 0..=255 {
-            bytes[place] = byte;
-            let wanted = byte == right || names_what_is_there(place, byte);
-            if is_taken(alloc, half, bytes.as_slice())? != wanted {
+            let damaged = changed(alloc, bytes, place, byte)?;
+            let wanted = byte == *right || names_what_is_there(place, byte);
+            if is_taken(alloc, plans, damaged.as_slice())? != wanted {
                 return Ok(Some((place, byte)));
             }
         }
-        bytes[place] = right;
     }
     Ok(None)
 }
 
 // The first length at which a message that is cut off is taken.
-fn first_cut(alloc: Global, half: &mut Half, bytes: &[u8]) -> Result<Option<usize>, AllocError>
-    requires side { half.old.side ≡ Db }
-    requires closed { half.old.in_call ≡ false }
-    ensures side { half.new.side ≡ Db }
-    ensures closed { half.new.in_call ≡ false }
-{
+fn first_cut(alloc: Global, plans: &Plans, bytes: &[u8]) -> Result<Option<usize>, AllocError> {
     for length in 0..bytes.len() {
-        if is_taken(alloc, half, &bytes[..length])? {
+        if is_taken(alloc, plans, &bytes[..length])? {
             return Ok(Some(length));
         }
     }
@@ -254,13 +242,9 @@ fn first_cut(alloc: Global, half: &mut Half, bytes: &[u8]) -> Result<Option<usiz
 #[test]
 fn a_message_is_taken_whole_or_not_at_all(rt: HostRuntime) -> Result<(), Fail> {
     let alloc = rt.alloc();
-    let mut bytes = hex(alloc, FIRST)?;
-    match new_end(alloc, &plans(alloc)?)? {
-        Some(mut half) => {
-            assert_eq!(rt; first_cut(alloc, &mut half, bytes.as_slice())?, None);
-            assert_eq!(rt; first_damaged(alloc, &mut half, &mut bytes)?, None);
-        }
-        None => assert!(rt; false),
-    }
+    let plans = plans(alloc)?;
+    let bytes = hex(alloc, FIRST)?;
+    assert_eq!(rt; first_cut(alloc, &plans, bytes.as_slice())?, None);
+    assert_eq!(rt; first_damaged(alloc, &plans, bytes.as_slice())?, None);
     Ok(())
 }

@@ -77,9 +77,9 @@ const POINTS: [(&str, &str); 3] = [
 ];
 
 fn push_points(text: &mut String, code: &Code, points: &Points) -> Result<(), AllocError> {
-    let mut number = 0;
+    let mut number: u16 = 0;
     for method in code.methods.as_slice() {
-        number += 1;
+        number = number.wrapping_add(1);
         write!(text, "{number}:")?;
         for slot in 0..method.slots.len() as u16 {
             if points.slot(number, slot) {
