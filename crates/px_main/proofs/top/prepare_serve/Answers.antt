@@ -8,7 +8,7 @@ use Rattle.px_main.proofs.top.prepare_serve.Goals as goal
 pub returns-in-Ok-clause-told : goal.returns-in-Ok-clause-told
 returns-in-Ok-clause-told g c = record {
   allowed =
-    allowed c.args.kind (g.S.Shelf.holds c.args.shelf.now c.args.program.now) (g.S.Shelf.holds c.args.shelf.now c.args.job.now) _ _ _ c.in_ok-program.ensures.file
+      allowed c.args.kind (g.S.Shelf.holds c.args.shelf.now c.args.program.now) (g.S.Shelf.holds c.args.shelf.now c.args.job.now) _ _ _ c.in_ok-program.ensures.file
       (subst (λ (told : Option (List ℕ)). IfSome told (λ file. kept max_job file ≡ option_map (λ v. v.items) c.in_ok-job.job)) (c.in_ok-program.ensures.holds c.args.job.now) c.in_ok-job.ensures.file)
       c.in-Ok.ensures;
   unfailed = c.in_ok-job.ensures.unfailed ∙ c.in_ok-program.ensures.unfailed;
