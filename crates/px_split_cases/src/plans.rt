@@ -63,7 +63,7 @@ fn programs_are_split(rt: HostRuntime) -> Result<(), Fail> {
     Ok(())
 }
 
-// Where references lead: of each method the slots that may hold the object of Main, and then its fields.
+// Where references lead: of each method the slots that may hold the object of Main, and then its fields, of the first ten.
 const POINTS: [(&str, &str); 3] = [
     (
         "public long f(long x) { long y = x; return y; }",
@@ -78,10 +78,10 @@ const POINTS: [(&str, &str); 3] = [
 
 fn push_points(text: &mut String, code: &Code, points: &Points) -> Result<(), AllocError> {
     let mut number: u16 = 0;
-    for method in code.methods.as_slice() {
+    for _method in code.methods.as_slice() {
         number = number.wrapping_add(1);
         write!(text, "{number}:")?;
-        for slot in 0..method.slots.len() as u16 {
+        for slot in 0..10 {
             if points.slot(number, slot) {
                 write!(text, " {slot}")?;
             }

@@ -34,9 +34,21 @@ fn judge_program(alloc: Global, program: Program) -> Result<Found, AllocError> {
     }
 }
 
+// The most bytes of a text that these tests read, as of a file.
+const MOST: usize = 1_048_576;
+
+/// The program of a text.
+pub fn read_program(alloc: Global, text: &[u8]) -> Result<Program, Fail> {
+    if text.len() <= MOST {
+        Ok(parse(alloc, text)?)
+    } else {
+        Err(AllocError)?
+    }
+}
+
 /// What the rules find in a program.
 pub fn judge(alloc: Global, text: &[u8]) -> Result<Found, Fail> {
-    let program = parse(alloc, text)?;
+    let program = read_program(alloc, text)?;
     Ok(judge_program(alloc, program)?)
 }
 

@@ -1,7 +1,6 @@
 //! Calls of `Db`: which text and which values they take, and what is told of them.
-use crate::rules::{Case, all};
+use crate::rules::{Case, all, read_program};
 use px_facts::{Element, Fact, Named, Operation, Ty};
-use px_grammar::parse;
 use px_rules::check;
 use px_sql::read_schema;
 use std::alloc::Global;
@@ -188,7 +187,7 @@ fn told(
     facts: &[(Ty, Named)],
     parameters: &[&[Ty]],
 ) -> Result<(), Fail> {
-    let program = parse(alloc, text.as_bytes())?;
+    let program = read_program(alloc, text.as_bytes())?;
     let schema = read_schema(alloc, program.tables.as_slice())?;
     let checked = check(alloc, program, schema)?;
     same_facts(rt, checked.facts.nodes.as_slice(), facts);

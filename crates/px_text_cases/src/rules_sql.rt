@@ -1,5 +1,5 @@
 //! Which texts mean which statement of SQL, and which tables may be declared.
-use px_grammar::parse;
+use crate::rules::read_program;
 use px_sql::{SchemaError, is_select, parameters, read_schema, read_statement};
 use px_value::{ColumnType, Schema, Statement};
 use std::alloc::{AllocError, Global};
@@ -149,7 +149,7 @@ const DECLARED: [(&str, Option<u32>); 8] = [
 ];
 
 fn declared(alloc: Global, text: &str) -> Result<Result<Schema, SchemaError>, Fail> {
-    let program = parse(alloc, text.as_bytes())?;
+    let program = read_program(alloc, text.as_bytes())?;
     Ok(read_schema(alloc, program.tables.as_slice()))
 }
 
