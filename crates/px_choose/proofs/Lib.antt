@@ -1,0 +1,16 @@
+mod Both
+mod Numbered
+mod Laws
+mod Turning
+mod Keeping
+mod Bounds
+mod Scans
+mod Loading
+mod Passing
+mod Fitting
+mod Spreading
+mod Steps
+mod Moving
+mod Totals
+mod Listing
+mod MoveLaw
