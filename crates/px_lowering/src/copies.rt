@@ -1,0 +1,51 @@
+//! Copies of what code takes over from a checked program.
+ghost use Rattle.std.specs.Prelude.{◌≡◌, map, IfOk};
+ghost use Rattle.px_lowering.specs.Programs.{statement_of};
+
+use px_facts::{Operation, copy_statement};
+use px_value::{Column, Schema, Statement, Table};
+use sqlite_items::Items;
+use std::alloc::{AllocError, Global};
+
+fn copy_columns(alloc: Global, columns: &[Column]) -> Result<Items<Column>, AllocError>
+    ensures { IfOk result (λ all. all ≡ columns.now) }
+{
+    let mut all = Items::new(alloc);
+    for column in columns {
+        let name = column.name.copy(alloc)?;
+        all.push(Column {
+            name,
+            ty: column.ty,
+        })?;
+    }
+    Ok(all)
+}
+
+fn copy_table(alloc: Global, table: &Table) -> Result<Table, AllocError>
+    ensures { IfOk result (λ t. t ≡ table.now) }
+{
+    let name = table.name.copy(alloc)?;
+    let columns = copy_columns(alloc, table.columns.as_slice())?;
+    Ok(Table { name, columns })
+}
+
+pub fn copy_schema(alloc: Global, schema: &Schema) -> Result<Schema, AllocError>
+    ensures { IfOk result (λ s. s ≡ schema.now) }
+{
+    let mut tables = Items::new(alloc);
+    for table in schema.tables.as_slice() {
+        tables.push(copy_table(alloc, table)?)?;
+    }
+    Ok(Schema { tables })
+}
+
+/// What the calls of `Db` ask, in order.
+pub fn statements(alloc: Global, operations: &[Operation]) -> Result<Items<Statement>, AllocError>
+    ensures { IfOk result (λ all. all ≡ map statement_of operations.now) }
+{
+    let mut all = Items::new(alloc);
+    for operation in operations {
+        all.push(copy_statement(alloc, &operation.statement)?)?;
+    }
+    Ok(all)
+}
