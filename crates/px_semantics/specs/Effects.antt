@@ -9,7 +9,7 @@ use Rattle.px_facts.specs.declared.types.Ty.TheVariants as ty
 use Rattle.px_facts.specs.declared.operation.Operation.{Operation}
 use Rattle.px_facts.specs.declared.checked.Facts.{Facts}
 pub use Rattle.px_effects.specs.Cells.{reference}
-use Rattle.px_effects.specs.Act.{Act, Firsts, does}
+use Rattle.px_effects.specs.Act.{Act, does}
 use Rattle.px_effects.specs.Cells as cells
 use Rattle.px_effects.specs.Rows as rows
 use Rattle.px_effects.specs.Cells.{Fresh, first_cells}

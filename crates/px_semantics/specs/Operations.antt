@@ -1,5 +1,5 @@
 -- What calls of `Db` do. Whoever runs a program says how the tables answer.
-use Rattle.std.specs.Prelude.{ℕ, List, Option, Some, None}
+use Rattle.std.specs.Prelude.{ℕ, List, Option}
 use Rattle.px_value.specs.declared.value.Value.{Value}
 use Rattle.px_facts.specs.declared.operation.Operation.{Operation}
 pub use Rattle.px_effects.specs.Run.{Ask}
