@@ -1,5 +1,5 @@
 -- The search finds the oldest of the grants against the wants.
-use Rattle.std.proofs.Common.{◌≡◌, ◌⊎◌, ℕ, ◌<◌, ◌≤◌, Bool, true, false, nat_lt, List, [], ◌∷◌, Option, Some, None, refl, sym, ap, ◌∙◌, subst, arith, inl, inr}
+use Rattle.std.proofs.Common.{◌≡◌, ◌⊎◌, ℕ, ◌≤◌, true, false, nat_lt, List, [], ◌∷◌, Option, Some, None, refl, sym, ap, subst, arith, inl, inr}
 use Rattle.std.proofs.lemmas.Bool.{ltb-true, ltb-false, or_cases, or_left, or_right, both_ways, cases_Bool, cond-true, cond-false, false_from_ne_true}
 use Rattle.px_locks.specs.declared.want.Want.{Want}
 use Rattle.px_locks.specs.declared.want.Grant.{Grant}

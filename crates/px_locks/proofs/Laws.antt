@@ -1,13 +1,11 @@
 -- The modes go both ways, and the rule gives one answer.
-use Rattle.std.proofs.Common.{◌≡◌, ℕ, ◌<◌, ◌≤◌, true, List, refl, sym, ap, ◌∙◌, arith}
+use Rattle.std.proofs.Common.{◌≡◌, ℕ, List, refl, sym, ap, ◌∙◌, arith}
 use Rattle.std.proofs.lemmas.Bool.{both_ways}
-use Rattle.px_locks.specs.declared.mode.Mode.{Mode}
 use Rattle.px_locks.specs.declared.mode.Mode.TheVariants.{IntentShared, IntentExclusive, Shared, Exclusive}
 use Rattle.px_locks.specs.declared.want.Want.{Want}
 use Rattle.px_locks.specs.declared.want.Grant.{Grant}
-use Rattle.px_locks.specs.declared.book.Asked.{Asked}
 use Rattle.px_locks.specs.declared.book.Asked.TheVariants.{Granted, Waits, Dies}
-use Rattle.px_locks.specs.Locks.{goes_with, IsIn, IsFree, IsOldest, IsTold}
+use Rattle.px_locks.specs.Locks.{IsFree, IsOldest}
 use Rattle.px_locks.specs.Laws.{ModesGoBothWays, HaveOwnStamps, AnswersAreOne}
 
 pub modes_go_both_ways : ModesGoBothWays

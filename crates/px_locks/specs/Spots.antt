@@ -1,5 +1,5 @@
 -- The order in which the book keeps its grants.
-use Rattle.std.specs.Prelude.{ℕ, ℤ, ◌+◌, ◌*◌, ◌^◌, Bool, ◌==◌, List, filter, Option, Some, None}
+use Rattle.std.specs.Prelude.{ℕ, ℤ, ◌+◌, ◌*◌, ◌==◌, List, filter, Option, Some, None}
 use Rattle.std.specs.Int.{w64, cast_unsigned}
 use Rattle.std.specs.List.Sorted.{IsNonDecreasingBy}
 use Rattle.px_locks.specs.declared.want.Item.{Item}

@@ -1,6 +1,5 @@
-use Rattle.std.proofs.Common.{◌≡◌, ℕ, List, ◌∷◌, [], Result, is_ok, if◌then◌else◌, sym, ap, ◌∙◌, subst}
+use Rattle.std.proofs.Common.{◌≡◌, ◌∷◌, [], is_ok, if◌then◌else◌, sym, ap, ◌∙◌, subst}
 use Rattle.std.specs.List.{insert}
-use Rattle.px_locks.specs.declared.want.Grant.{Grant}
 use Rattle.px_locks.specs.Locks.{IsJoined}
 use Rattle.px_locks.specs.Spots.{IsInOrder}
 use Rattle.px_locks.proofs.Range.{in_order_put}

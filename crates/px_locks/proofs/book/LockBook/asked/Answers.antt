@@ -1,5 +1,4 @@
-use Rattle.std.proofs.Common.{sym, arith, ◌∙◌, rules}
-use Rattle.std.proofs.lemmas.Bool.{ltb-true, ltb-false}
+use Rattle.std.proofs.Common.{sym, arith, ◌∙◌}
 use Rattle.px_locks.proofs.Best.{free, oldest}
 use Rattle.px_locks.proofs.book.LockBook.asked.Goals as goal
 

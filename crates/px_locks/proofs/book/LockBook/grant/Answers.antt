@@ -1,8 +1,7 @@
-use Rattle.std.proofs.Common.{◌≡◌, ◌+◌, List, ◌∷◌, None, drop, ◌<◌, length, subst, sym, ap, ◌∙◌, arith, suc, add-one}
+use Rattle.std.proofs.Common.{List, None, drop, subst, sym, arith, add-one}
 use Rattle.std.proofs.Math.Seq.{drop-cons}
 use Rattle.px_locks.specs.declared.mode.Mode.TheVariants.{IntentShared}
 use Rattle.px_locks.specs.declared.want.Want.{Want}
-use Rattle.px_locks.specs.declared.want.Grant.{Grant}
 use Rattle.px_locks.specs.Locks.{granted, IsJoined}
 use Rattle.px_locks.proofs.In.{joined_more}
 use Rattle.px_locks.proofs.book.LockBook.grant.Goals as goal
