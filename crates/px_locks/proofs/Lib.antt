@@ -1,0 +1,4 @@
+pub mod Best
+pub mod In
+pub mod Laws
+pub mod Range

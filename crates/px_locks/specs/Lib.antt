@@ -1,0 +1,3 @@
+pub mod Laws
+pub mod Locks
+pub mod Spots
