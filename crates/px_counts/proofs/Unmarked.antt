@@ -25,7 +25,7 @@ use Rattle.px_semantics.specs.Calls.{Source, first_slots, leaves_frame, enters, 
 use Rattle.px_semantics.specs.Entry.{all_frames, exec}
 use Rattle.px_counts.specs.Marks.{Mark, Entered, Marked, marked_ask, mark_here, unmarked_state, unmarked}
 use Rattle.px_counts.specs.Runs.{marked_meant, meant_with_marks, completed, marked_does, done_with_marks, reached, enters_with_marks, calls_with_marks, exec_with_marks}
-use Rattle.px_counts.proofs.Folds.{lefts, rights, exprs_meet, left_parts, right_parts, stmts_meet}
+use Rattle.px_semantics.proofs.Folds.{lefts, rights, exprs_meet, left_parts, right_parts, stmts_meet}
 use Rattle.px_counts.proofs.Beside.{Closed, Like, expr_alike, stmt_alike}
 
 module _ (Q W : Type 0) where

@@ -42,7 +42,7 @@ use Rattle.px_lowering.specs.Types.{code_type}
 use Rattle.px_lowering.specs.Emit.{Lasted}
 use Rattle.px_lowering.specs.Expressions.{Low, valued, stands, operand_at, name_had, member_had, index_low, object_had, array_had, negated, number_in, number_of, literal_behind, prefix_low, two_low, binary_low, call_low, low, part_of}
 use Rattle.px_lowering.proofs.Forms.{low_number, low_text, low_true, low_false, low_null, low_this, low_name, low_group, low_field, low_index, low_call, low_new_object, low_new_array, low_prefix, low_binary}
-use Rattle.px_preservation.proofs.SourceForms.{meant_number, meant_text, meant_true, meant_false, meant_null, meant_this, meant_name, meant_group, meant_field, meant_index, meant_call, meant_new_object, meant_new_array, meant_prefix, meant_binary, meant_type}
+use Rattle.px_semantics.proofs.Forms.{meant_number, meant_text, meant_true, meant_false, meant_null, meant_this, meant_name, meant_group, meant_field, meant_index, meant_call, meant_new_object, meant_new_array, meant_prefix, meant_binary, meant_type}
 use Rattle.px_preservation.proofs.Program.{SameProgram}
 use Rattle.px_preservation.proofs.Afters.{grown, after_none}
 use Rattle.px_preservation.proofs.Acts.{plain_get, plain_length, plain_load, plain_array, object_same}

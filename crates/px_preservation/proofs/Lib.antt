@@ -13,7 +13,6 @@ pub mod Invoked
 pub mod Expressions
 pub mod Program
 pub mod Runs
-pub mod SourceForms
 pub mod Frames
 pub mod Sequences
 pub mod Assignments

@@ -13,7 +13,7 @@ use Rattle.px_lowering.specs.declared.draft.Draft.{Draft}
 use Rattle.px_lowering.specs.Emit.{slot_of}
 use Rattle.px_lowering.specs.Expressions.{low, part_of, operand_at, fit_to, fitted_operand}
 use Rattle.px_lowering.specs.Statements.{unused as unused_low}
-use Rattle.px_preservation.proofs.SourceForms.{meant_type}
+use Rattle.px_semantics.proofs.Forms.{meant_type}
 use Rattle.px_preservation.proofs.Operands.{IsOperand, IsSlotted, IsUnused, operand_is, slotted_is, unused_is}
 use Rattle.px_preservation.proofs.Fitted.{fits}
 use Rattle.px_preservation.proofs.Agree.{CallsMeet, IsLowered, Lowers, around}

@@ -24,7 +24,7 @@ use Rattle.px_lowering.specs.Emit.{Operated}
 use Rattle.px_lowering.specs.Expressions.{part_of, operand_at, fitted_operand, put_form, put_low}
 use Rattle.px_lowering.specs.Expressions as lower
 use Rattle.px_preservation.proofs.Agree.{CallsMeet, Lowers}
-use Rattle.px_preservation.proofs.SourceForms.{meant_number, meant_text, meant_true, meant_false, meant_null, meant_this, meant_name, meant_group, meant_field, meant_index, meant_call, meant_new_object, meant_new_array, meant_prefix, meant_binary}
+use Rattle.px_semantics.proofs.Forms.{meant_number, meant_text, meant_true, meant_false, meant_null, meant_this, meant_name, meant_group, meant_field, meant_index, meant_call, meant_new_object, meant_new_array, meant_prefix, meant_binary}
 use Rattle.px_preservation.proofs.Operands.{IsOperand}
 use Rattle.px_preservation.proofs.Afters.{grown}
 use Rattle.px_preservation.proofs.Assignments.{IsPut, own_field_put, field_put, element_put, two_put, nothing_put}

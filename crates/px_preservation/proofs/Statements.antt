@@ -34,7 +34,7 @@ use Rattle.px_lowering.specs.Statements.{Steps, lower_all, low_stmt, store, comp
 use Rattle.px_lowering.proofs.StmtForms.{low_block, low_empty, low_local, low_assign, low_compound, low_up, low_down, low_call, low_if, low_while, low_for, low_return, low_print}
 use Rattle.px_preservation.proofs.Meets.{meets_at}
 use Rattle.px_preservation.proofs.Agree.{Shares, CallsMeet, Lowers, IsDone, LowersStatement}
-use Rattle.px_preservation.proofs.SourceForms.{meant_type, done_block, done_empty, done_local, done_assign, done_compound, done_up, done_down, done_call, done_if, done_while, done_for, done_return, done_print}
+use Rattle.px_semantics.proofs.Forms.{meant_type, done_block, done_empty, done_local, done_assign, done_compound, done_up, done_down, done_call, done_if, done_while, done_for, done_return, done_print}
 use Rattle.px_preservation.proofs.Operands.{IsOperand, unused_is}
 use Rattle.px_preservation.proofs.Runs.{run_do, run_one}
 use Rattle.px_preservation.proofs.Afters.{behind, grown}
