@@ -16,7 +16,6 @@ use Rattle.px_job.specs.Settings.{in_range}
 use Rattle.px_job.specs.Rows.{key_stands, max_rows}
 use Rattle.px_job.specs.Calls.{max_calls}
 use Rattle.px_job.specs.Loads.{full_load, max_readings, max_order}
-use Rattle.px_job.specs.Jobs.{job_of}
 use Rattle.px_job.specs.declared.settings.Settings.{Settings}
 use Rattle.px_job.specs.declared.settings.Setting.TheVariants.{Sessions, Workers, Retries, Alpha, Latency, PerByte, Profile}
 use Rattle.px_job.specs.declared.job.Row.{Row}
@@ -100,6 +99,3 @@ pub record Fits (entries : List Entry) (tables : List Table) (job : Job) : Type 
   pub loads : AllByRecursion AreReadings job.loads
   pub order : AllByRecursion (IsSession job.settings.sessions) job.order
   pub order_count : length job.order ≤ max_order
-
-abbrev pub JobsFit : Type 0
-JobsFit = (entries : List Entry) (schema : Schema) (bytes : List ℕ) → IfOk (job_of entries schema bytes) (λ job. Fits entries schema.tables job)

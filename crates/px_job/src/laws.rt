@@ -1,7 +1,6 @@
 //! Laws of what the reader's contract says.
 
 ghost use Rattle.px_job.specs.Filing.{LinesAreFiled};
-ghost use Rattle.px_job.specs.Fitting.{JobsFit};
 ghost use Rattle.px_job.specs.Spelling.{WordsAreSpelled};
 
 /// The lines that are read are those that stand in the file.
@@ -12,10 +11,4 @@ pub fn lines_are_filed()
 /// The words of a line are those that are spelled in it.
 pub fn words_are_spelled()
     ensures { WordsAreSpelled }
-{}
-
-/// A job keeps its limits: settings in their ranges, rows of tables that there are, with values of
-/// their columns and no key twice, calls and loads of sessions and entries that there are.
-pub fn jobs_fit()
-    ensures { JobsFit }
 {}

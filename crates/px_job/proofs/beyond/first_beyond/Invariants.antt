@@ -1,12 +1,12 @@
-use Rattle.std.proofs.Common.{◌≡◌, ◌+◌, ◌≤◌, length}
+use Rattle.std.proofs.Common.{◌≡◌, ◌+◌, ◌≤◌, false, length}
 use Rattle.px_job.specs.Lines.{lines_of}
-use Rattle.px_job.specs.Jobs.{later_from}
-use Rattle.px_job.proofs.read.first_later.Given as goal
+use Rattle.px_job.specs.Beyond.{beyond_from}
+use Rattle.px_job.proofs.beyond.first_beyond.Given as goal
 
 abbrev pub invariant-loop-rest : goal.invariant-loop-rest
 invariant-loop-rest l =
     record {
-      same : later_from l.number (lines_of l.rest) ≡ later_from 1 (lines_of l.bytes);
+      same : beyond_from l.number l.parted (lines_of l.rest) ≡ beyond_from 1 false (lines_of l.bytes);
       within : l.number + length l.rest ≤ length l.bytes + 1;
     }
 
