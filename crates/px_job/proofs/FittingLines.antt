@@ -32,7 +32,7 @@ pub all_map : {A : Type 0} (P Q : A → Type 0) (xs : List A) → ((x : A) → P
 all_map P Q [] each p = tt
 all_map P Q (x ∷ xs) each p = (each x p.0, all_map P Q xs each p.1)
 
-all_set : {A : Type 0} (P : A → Type 0) (xs : List A) (place : ℕ) (x : A) → AllByRecursion P xs → P x → AllByRecursion P (slice_set xs place x)
+pub all_set : {A : Type 0} (P : A → Type 0) (xs : List A) (place : ℕ) (x : A) → AllByRecursion P xs → P x → AllByRecursion P (slice_set xs place x)
 all_set P [] place x p q = tt
 all_set P (y ∷ xs) zero x p q = (q, p.1)
 all_set P (y ∷ xs) (suc place) x p q = (p.0, all_set P xs place x p.1 q)

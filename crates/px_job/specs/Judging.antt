@@ -119,7 +119,7 @@ are_part _ words = false
 
 abbrev pub is_part_line : List (List ℕ) → Bool
 is_part_line [] = false
-is_part_line (verb ∷ words) = are_part (verb_of verb) words
+is_part_line (verb ∷ words) = not (slice_index verb 0 == 35) && are_part (verb_of verb) words
 
 -- how many lines have it
 abbrev pub parts_in : List (List ℕ) → ℕ
