@@ -1,5 +1,5 @@
 -- What a line makes keeps what a job keeps.
-use Rattle.std.proofs.Common.{◌≡◌, ℕ, zero, suc, ◌+◌, ◌-◌, ◌≤◌, ◌<◌, ◌==◌, nat_lt, nat_le, Bool, true, false, not, ◌&&◌, List, [], ◌∷◌, ◌++◌, length, slice_get, slice_set, Option, Some, None, IfSome, Result, Ok, Err, IfOk, if◌then◌else◌, refl, ap, sym, ◌∙◌, append_assoc, arith}
+use Rattle.std.proofs.Common.{◌≡◌, ℕ, zero, suc, ◌+◌, ◌-◌, ◌≤◌, ◌<◌, ◌==◌, nat_lt, nat_le, Bool, true, false, not, ◌&&◌, List, [], ◌∷◌, ◌++◌, length, slice_get, slice_set, unwrap_or, Option, Some, None, IfSome, Result, Ok, Err, IfOk, if◌then◌else◌, refl, ap, sym, ◌∙◌, append_assoc, arith}
 use Rattle.std.specs.List.{AllByRecursion, list_all}
 use Rattle.std.specs.Option.{option_and_then}
 use Rattle.std.proofs.lemmas.Bool.{leb-false}
@@ -12,14 +12,15 @@ use Rattle.px_job.specs.Places.{place_of}
 use Rattle.px_job.specs.Numbers.{number, within, are_digits, numbers_within}
 use Rattle.px_job.specs.Arguments.{is_digits, is_value, arguments_of}
 use Rattle.px_job.specs.Cells.{cells_of}
+use Rattle.px_job.specs.Rules.{least_code, unless}
 use Rattle.px_job.specs.Rows.{max_rows, table_of, short_place, key_stands, row_with, row_at, row_in, row_of, judged_row}
 use Rattle.px_job.specs.Calls.{max_calls, call_with, call_at, call_to, call_by, judged_call}
-use Rattle.px_job.specs.Loads.{max_readings, full_load, max_order, loads_with, loads_by, loads_of, judged_load, order_of, judged_order}
+use Rattle.px_job.specs.Loads.{max_readings, full_load, max_order, loads_with, loads_by, loads_of, judged_load, sessions_of, names_no_session, is_order_too_long, order_rules, judged_order}
 use Rattle.px_job.specs.Fitting.{HaveTypes, FitColumns, IsRowOf, HaveNewKeys, IsSession, IsCallOf, AreReadings}
 use Rattle.px_job.specs.declared.job.Row.{Row}
 use Rattle.px_job.specs.declared.job.Call.{Call}
 use Rattle.px_job.specs.declared.job.JobCode.{JobCode}
-use Rattle.px_job.specs.declared.job.JobCode.TheVariants.{J1, J3, J7, J9, J11, J18, J19, J20}
+use Rattle.px_job.specs.declared.job.JobCode.TheVariants.{J1, J3, J5, J7, J9, J11, J18, J19, J20}
 use Rattle.px_job.proofs.FittingValues.{within_fits, numbers_fit, arguments_fit, cells_fit}
 
 -- ---- lists
@@ -155,19 +156,21 @@ loads_fit sessions loads (session ∷ words) all =
 abbrev pub OrderFits : ℕ → Result (List ℕ) JobCode → Type 0
 OrderFits sessions meaning = IfOk meaning (λ order. AllByRecursion (IsSession sessions) order × (length order ≤ max_order))
 
-order_by_room : (sessions : ℕ) (order : List ℕ) (full : Bool) → AllByRecursion (IsSession sessions) order → nat_lt max_order (length order) ≡ full → OrderFits sessions (if full then Err J20 else Ok order)
-order_by_room sessions order true all n = tt
-order_by_room sessions order false all n =
-    let room : length order < max_order + 1 = leb-false (max_order + 1) (length order) n in
-    (all, omega (arith, room))
+all_or_none : (P : ℕ → Type 0) (found : Option (List ℕ)) → IfSome found (λ ms. AllByRecursion P ms) → AllByRecursion P (unwrap_or found [])
+all_or_none P None all = tt
+all_or_none P (Some ms) all = all
 
-order_of_fits : (sessions : ℕ) (order : Option (List ℕ)) → IfSome order (λ ms. AllByRecursion (IsSession sessions) ms) → OrderFits sessions (order_of order)
-order_of_fits sessions None all = tt
-order_of_fits sessions (Some order) all = order_by_room sessions order (nat_lt max_order (length order)) all refl
+order_by : (sessions : ℕ) (words : List (List ℕ)) (repeated none long : Bool) → is_order_too_long sessions words ≡ long → OrderFits sessions (unless (least_code ((repeated, J3) ∷ (none, J5) ∷ (long, J20) ∷ [])) (sessions_of sessions words))
+order_by sessions words true none long n = tt
+order_by sessions words false true long n = tt
+order_by sessions words false false true n = tt
+order_by sessions words false false false n =
+    let room : length (sessions_of sessions words) < max_order + 1 = leb-false (max_order + 1) (length (sessions_of sessions words)) n in
+    (all_or_none (IsSession sessions) (numbers_within 1 sessions words) (numbers_fit 1 sessions words), omega (arith, room))
 
 pub order_fits : (sessions : ℕ) (repeated : Bool) (words : List (List ℕ)) → OrderFits sessions (judged_order sessions repeated words)
 order_fits sessions repeated words =
-    elim (not (are_digits words)) as (λ b. OrderFits sessions (if b then Err J1 else if repeated then Err J3 else order_of (numbers_within 1 sessions words))) [
-      | true ↦ tt
-      | false ↦ elim repeated as (λ b. OrderFits sessions (if b then Err J3 else order_of (numbers_within 1 sessions words))) [ true ↦ tt | false ↦ order_of_fits sessions (numbers_within 1 sessions words) (numbers_fit 1 sessions words) ]
+    elim (are_digits words) as (λ b. OrderFits sessions (if b then unless (least_code (order_rules sessions repeated words)) (sessions_of sessions words) else Err J1)) [
+      | true ↦ order_by sessions words repeated (names_no_session sessions words) (is_order_too_long sessions words) refl
+      | false ↦ tt
     ]

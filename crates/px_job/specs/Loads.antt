@@ -1,5 +1,7 @@
 -- What lines make that begin with `load` or `order`.
-use Rattle.std.specs.Prelude.{ℕ, ◌+◌, ◌-◌, nat_lt, Bool, not, ◌&&◌, List, ◌∷◌, ◌++◌, length, slice_get, slice_set, Option, Some, None, Result, Ok, Err, if◌then◌else◌}
+use Rattle.std.specs.Prelude.{ℕ, ◌+◌, ◌-◌, nat_lt, Bool, not, ◌&&◌, List, [], ◌∷◌, ◌++◌, length, slice_get, slice_set, unwrap_or, Option, Some, None, Result, Ok, Err, if◌then◌else◌}
+use Rattle.std.specs.Option.{is_some}
+use Rattle.px_job.specs.Rules.{Rule, least_code, unless}
 use Rattle.px_job.specs.Numbers.{number, within, are_digits, numbers_within}
 use Rattle.px_job.specs.Arguments.{is_digits}
 use Rattle.px_job.specs.declared.job.JobCode.{JobCode}
@@ -34,13 +36,19 @@ abbrev pub judged_load : ℕ → List (List ℕ) → List (List ℕ) → Result 
 judged_load sessions loads (session ∷ words) = if not (is_digits session && are_digits words) then Err J1 else loads_of sessions loads session (numbers_within 0 full_load words)
 judged_load sessions loads _ = Err J1
 
-abbrev pub order_of : Option (List ℕ) → Result (List ℕ) JobCode
-order_of None = Err J5
-order_of (Some order) = if nat_lt max_order (length order) then Err J20 else Ok order
+-- the sessions of the order, where each is one that there is
+abbrev pub sessions_of : ℕ → List (List ℕ) → List ℕ
+sessions_of sessions words = unwrap_or (numbers_within 1 sessions words) []
+
+abbrev pub names_no_session : ℕ → List (List ℕ) → Bool
+names_no_session sessions words = not (is_some (numbers_within 1 sessions words))
+
+abbrev pub is_order_too_long : ℕ → List (List ℕ) → Bool
+is_order_too_long sessions words = nat_lt max_order (length (sessions_of sessions words))
+
+abbrev pub order_rules : ℕ → Bool → List (List ℕ) → List Rule
+order_rules sessions repeated words = (repeated, J3) ∷ (names_no_session sessions words, J5) ∷ (is_order_too_long sessions words, J20) ∷ []
 
 -- the words behind `order`, behind another line of the form or not: sessions
 abbrev pub judged_order : ℕ → Bool → List (List ℕ) → Result (List ℕ) JobCode
-judged_order sessions repeated words =
-    if not (are_digits words) then Err J1 else
-    if repeated then Err J3 else
-    order_of (numbers_within 1 sessions words)
+judged_order sessions repeated words = if are_digits words then unless (least_code (order_rules sessions repeated words)) (sessions_of sessions words) else Err J1
