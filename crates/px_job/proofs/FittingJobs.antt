@@ -1,7 +1,7 @@
 -- What the job of a file keeps.
 use Rattle.std.proofs.Common.{◌≡◌, ℕ, zero, suc, ◌+◌, ◌≤◌, ◌<◌, ◌==◌, Bool, true, false, not, ◌&&◌, List, [], ◌∷◌, ◌++◌, length, replicate, slice_index, Option, Some, None, unwrap_or, Result, Ok, Err, IfOk, if◌then◌else◌, refl, sym, ap, ◌∙◌, subst, arith}
 use Rattle.std.specs.List.{AllByRecursion}
-use Rattle.std.specs.Option.{is_some}
+use Rattle.std.specs.Option.{is_some, option_map}
 use Rattle.std.proofs.lemmas.List.{length-append, length-replicate}
 use Rattle.px_value.specs.declared.schema.Table.{Table}
 use Rattle.px_facts.specs.declared.checked.Entry.{Entry}
@@ -14,10 +14,10 @@ use Rattle.px_job.specs.Calls.{max_calls, judged_call}
 use Rattle.px_code.specs.declared.side.Side.{Side}
 use Rattle.px_normal.specs.declared.code.Code.{Code}
 use Rattle.px_lex.specs.Names.{is_identifier}
-use Rattle.px_job.specs.Rules.{least_code, unless}
+use Rattle.px_job.specs.Rules.{least_code, is_absent, unless}
 use Rattle.px_job.specs.Prints.{prints_of}
 use Rattle.px_job.specs.Selecting.{is_selector, selected}
-use Rattle.px_job.specs.Parts.{bounds_of, is_part, begun, last_of, new_part, repeats_name, is_out_of_range, is_not_above, ends_low, is_part_too_many, part_rules, with_part, part_by, judged_part, placed, places_print, side_of, side_in, judged_side, no_parts}
+use Rattle.px_job.specs.Parts.{bounds_of, is_part, begun, last_of, new_part, repeats_name, is_out_of_range, is_not_above, ends_low, is_part_too_many, part_rules, with_part, part_by, judged_part, placed, places_print, side_of, judged_side, no_parts}
 use Rattle.px_job.specs.Loads.{max_order, judged_load, judged_order}
 use Rattle.px_job.specs.Judging.{Against, judged_setting, with_stood, with_row, with_parts, with_call, with_loads, with_order, judged_form, judged_words, has_high_byte, judged, are_part, is_part_line, parts_in}
 use Rattle.px_job.specs.Jobs.{noted_from, joined, drafted_from, nothing_yet, finished, against_with, job_under, job_of}
@@ -35,7 +35,7 @@ use Rattle.px_job.specs.declared.job.Part.{Part}
 use Rattle.px_job.specs.declared.job.Row.{Row}
 use Rattle.px_job.specs.declared.job.Call.{Call}
 use Rattle.px_job.specs.declared.job.JobCode.{JobCode}
-use Rattle.px_job.specs.declared.job.JobCode.TheVariants.{J1, J3, J4, J15, J16, J17, J20}
+use Rattle.px_job.specs.declared.job.JobCode.TheVariants.{J1, J3, J4, J13, J14, J15, J16, J17, J20}
 use Rattle.px_job.specs.declared.job.JobFault.{JobFault}
 use Rattle.px_job.proofs.FittingLines.{all_append, new_keys_more, RowFits, CallFits, LoadsFit, OrderFits, row_fits, call_fits, loads_fit, order_fits}
 use Rattle.px_job.proofs.FittingParts.{PartsHold, PartsFit, none_hold, placed_hold, part_holds, parts_fit}
@@ -157,21 +157,15 @@ module _ (by : Against) (draft : Draft) (h : Holds by draft) where
       ∙ sym (length-append draft.parts.before (last ∷ []))
       ∙ ap (λ (l : Option Part). length (draft.parts.before ++ last_of l)) (sym e)
 
-  placed_by : (side : Side) (last : Part) (numbers : List ℕ) (prints : Bool) → draft.parts.last ≡ Some last → places_print (prints_of by.code) side numbers ≡ prints → Kept by draft false (with_parts draft (if prints then Err J15 else Ok (record draft.parts { last = Some (placed side numbers last) })))
-  placed_by side last numbers true e f = tt
-  placed_by side last numbers false e f =
+  placed_by : (side : Side) (last : Option Part) (numbers : Option (List ℕ)) (prints : Bool) → draft.parts.last ≡ last → places_print (prints_of by.code) side (unwrap_or numbers []) ≡ prints → Kept by draft false (with_parts draft (unless (least_code ((is_absent last, J13) ∷ (is_absent numbers, J14) ∷ (prints, J15) ∷ [])) (record draft.parts { last = option_map (placed side (unwrap_or numbers [])) last })))
+  placed_by side None numbers prints e f = tt
+  placed_by side (Some last) None prints e f = tt
+  placed_by side (Some last) (Some numbers) true e f = tt
+  placed_by side (Some last) (Some numbers) false e f =
       (parts_kept (record draft.parts { last = Some (placed side numbers last) }) (placed_hold by.code by.parts draft.parts.before last side numbers f (subst (λ (l : Option Part). PartsHold by.code by.parts draft.parts.before l) e h.parts)), same_count last (placed side numbers last) e)
 
-  side_of_kept : (side : Side) (last : Part) (numbers : Option (List ℕ)) → draft.parts.last ≡ Some last → Kept by draft false (with_parts draft (side_of by.code draft.parts last side numbers))
-  side_of_kept side last None e = tt
-  side_of_kept side last (Some numbers) e = placed_by side last numbers (places_print (prints_of by.code) side numbers) e refl
-
-  side_in_kept : (side : Side) (words : List (List ℕ)) (last : Option Part) → draft.parts.last ≡ last → Kept by draft false (with_parts draft (side_in by.code draft.parts side words last))
-  side_in_kept side words None e = tt
-  side_in_kept side words (Some last) e = side_of_kept side last (selected by.code words) e
-
   side_kept : (side : Side) (words : List (List ℕ)) → Kept by draft false (with_parts draft (judged_side by.code draft.parts side words))
-  side_kept side words = elim (is_selector words) as (λ b. Kept by draft false (with_parts draft (if b then side_in by.code draft.parts side words draft.parts.last else Err J1))) [ true ↦ side_in_kept side words draft.parts.last refl | false ↦ tt ]
+  side_kept side words = elim (is_selector words) as (λ b. Kept by draft false (with_parts draft (if b then side_of by.code draft.parts side (selected by.code words) else Err J1))) [ true ↦ placed_by side draft.parts.last (selected by.code words) (places_print (prints_of by.code) side (unwrap_or (selected by.code words) [])) refl refl | false ↦ tt ]
 
   -- ---- one line
 
