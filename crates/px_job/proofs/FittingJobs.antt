@@ -17,7 +17,7 @@ use Rattle.px_lex.specs.Names.{is_identifier}
 use Rattle.px_job.specs.Rules.{least_code, is_absent, unless}
 use Rattle.px_job.specs.Prints.{prints_of}
 use Rattle.px_job.specs.Selecting.{is_selector, selected}
-use Rattle.px_job.specs.Parts.{bounds_of, is_part, begun, last_of, new_part, repeats_name, is_out_of_range, is_not_above, ends_low, is_part_too_many, part_rules, with_part, part_by, judged_part, placed, places_print, side_of, judged_side, no_parts}
+use Rattle.px_job.specs.Parts.{bounds_of, is_part, begun, last_of, new_part, repeats_name, is_out_of_range, is_not_above, ends_low, is_part_too_many, with_part, part_by, judged_part, placed, places_print, side_of, judged_side}
 use Rattle.px_job.specs.Loads.{max_order, judged_load, judged_order}
 use Rattle.px_job.specs.Judging.{Against, judged_setting, with_stood, with_row, with_parts, with_call, with_loads, with_order, judged_form, judged_words, has_high_byte, judged, are_part, is_part_line, parts_in}
 use Rattle.px_job.specs.Jobs.{noted_from, joined, drafted_from, nothing_yet, finished, against_with, job_under, job_of}

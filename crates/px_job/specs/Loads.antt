@@ -1,5 +1,5 @@
 -- What lines make that begin with `load` or `order`.
-use Rattle.std.specs.Prelude.{ℕ, ◌+◌, ◌-◌, nat_lt, Bool, ◌&&◌, List, [], ◌∷◌, ◌++◌, length, slice_get, slice_set, unwrap_or, Option, Some, None, Result, Ok, Err, if◌then◌else◌}
+use Rattle.std.specs.Prelude.{ℕ, ◌+◌, ◌-◌, nat_lt, Bool, ◌&&◌, List, [], ◌∷◌, ◌++◌, length, slice_get, slice_set, unwrap_or, Option, Some, None, Result, Err, if◌then◌else◌}
 use Rattle.px_job.specs.Rules.{Rule, least_code, is_absent, unless}
 use Rattle.px_job.specs.Numbers.{number, within, are_digits, numbers_within}
 use Rattle.px_job.specs.Arguments.{is_digits}

@@ -1,5 +1,5 @@
 -- What a line makes that begins with `row`.
-use Rattle.std.specs.Prelude.{ℕ, ◌==◌, ◌^◌, nat_lt, nat_le, ℤ, Bool, false, not, ◌&&◌, List, [], ◌∷◌, length, position, slice_get, unwrap_or, Option, Some, None, Result, Ok, Err, if◌then◌else◌}
+use Rattle.std.specs.Prelude.{ℕ, ◌==◌, ◌^◌, nat_lt, nat_le, ℤ, Bool, false, not, ◌&&◌, List, [], ◌∷◌, length, position, slice_get, unwrap_or, Option, Some, None, Result, Err, if◌then◌else◌}
 use Rattle.std.specs.Option.{option_and_then}
 use Rattle.std.specs.List.{list_any, list_all}
 use Rattle.std.specs.Ordering.{int_eq}
