@@ -9,3 +9,5 @@ pub mod PrintsMore
 pub mod NodesMore
 pub mod FittingValues
 pub mod FittingLines
+pub mod FittingParts
+pub mod FittingJobs

@@ -1,7 +1,6 @@
 -- One node more.
-use Rattle.std.proofs.Common.{◌≡◌, ℕ, ◌+◌, ◌<◌, Bool, List, [], ◌∷◌, ◌++◌, Option, length, drop, ap, sym, ◌∙◌, append_assoc, arith}
+use Rattle.std.proofs.Common.{◌≡◌, ℕ, ◌+◌, ◌<◌, Bool, List, [], ◌∷◌, ◌++◌, length, drop, ap, sym, ◌∙◌, append_assoc, arith}
 use Rattle.std.proofs.lemmas.List.{drop_more}
-use Rattle.px_code.specs.declared.side.Side.{Side}
 use Rattle.px_normal.specs.declared.node.Node.{Node}
 use Rattle.px_job.specs.Prints.{is_print}
 use Rattle.px_job.specs.Parts.{first_side, first_sides}

@@ -1,5 +1,5 @@
 -- What a job file means.
-use Rattle.std.specs.Prelude.{◌≡◌, ℕ, ◌+◌, List, [], ◌∷◌, replicate, unwrap_or, Option, Some, None, Result, Ok, Err, if◌then◌else◌}
+use Rattle.std.specs.Prelude.{◌≡◌, ℕ, ◌+◌, List, [], ◌∷◌, replicate, unwrap_or, None, Result, Ok, Err}
 use Rattle.px_value.specs.declared.schema.Schema.{Schema}
 use Rattle.px_value.specs.declared.schema.Table.{Table}
 use Rattle.px_facts.specs.declared.checked.Checked.{Checked}

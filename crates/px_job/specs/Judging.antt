@@ -9,6 +9,7 @@ use Rattle.px_facts.specs.declared.checked.Entry.{Entry}
 use Rattle.px_job.specs.Words.{words_of}
 use Rattle.px_job.specs.Arguments.{is_digits}
 use Rattle.px_job.specs.Numbers.{number}
+use Rattle.px_job.specs.Rules.{Rule, least_code, unless}
 use Rattle.px_job.specs.Settings.{in_range, stood, stood_with}
 use Rattle.px_job.specs.Verbs.{verb_of, setting_of}
 use Rattle.px_job.specs.Rows.{judged_row}
@@ -28,15 +29,21 @@ use Rattle.px_job.specs.declared.job.JobCode.TheVariants.{J1, J3, J4}
 use Rattle.px_job.specs.declared.judge.Refusal.{Refusal}
 use Rattle.px_job.specs.declared.judge.Refusal.TheVariants.{Breaks, NoMemory}
 
--- In each of the forms below and in their files the tests stand in the order of the codes, so that a line has its smallest.
+-- In each of the forms, here and in their files, the tests stand in the order of the codes, so that a line has its smallest.
+
+-- a line of the setting's form has stood
+abbrev pub repeats_setting : Stood → Setting → Bool
+repeats_setting s setting = is_some (stood s setting)
+
+abbrev pub is_outside : Setting → ℕ → Bool
+is_outside setting n = not (in_range setting n)
+
+abbrev pub setting_rules : Stood → Setting → ℕ → List Rule
+setting_rules s setting n = (repeats_setting s setting, J3) ∷ (is_outside setting n, J4) ∷ []
 
 -- the words behind a setting's name: a number
 abbrev pub judged_setting : Stood → Setting → List (List ℕ) → Result Stood JobCode
-judged_setting s setting (word ∷ []) =
-    if not (is_digits word) then Err J1 else
-    if is_some (stood s setting) then Err J3 else
-    if not (in_range setting (number word)) then Err J4 else
-    Ok (stood_with s setting (number word))
+judged_setting s setting (word ∷ []) = if is_digits word then unless (least_code (setting_rules s setting (number word))) (stood_with s setting (number word)) else Err J1
 judged_setting s setting _ = Err J1
 
 -- the draft with what a line made
@@ -119,7 +126,7 @@ are_part _ words = false
 
 abbrev pub is_part_line : List (List ℕ) → Bool
 is_part_line [] = false
-is_part_line (verb ∷ words) = are_part (verb_of verb) words
+is_part_line (verb ∷ words) = not (slice_index verb 0 == 35) && are_part (verb_of verb) words
 
 -- how many lines have it
 abbrev pub parts_in : List (List ℕ) → ℕ

@@ -1,7 +1,7 @@
 -- What lines make that begin with `part`, `app` or `db`.
-use Rattle.std.specs.Prelude.{ℕ, zero, suc, ◌+◌, ◌==◌, nat_lt, nat_le, Bool, true, false, not, ◌&&◌, ◌||◌, List, [], ◌∷◌, ◌++◌, length, slice_set, Option, Some, None, Result, Ok, Err, if◌then◌else◌, codes}
+use Rattle.std.specs.Prelude.{ℕ, zero, suc, ◌+◌, ◌==◌, nat_lt, nat_le, Bool, true, false, not, ◌&&◌, ◌||◌, List, [], ◌∷◌, ◌++◌, length, slice_set, unwrap_or, Option, Some, None, Result, Err, if◌then◌else◌, codes}
 use Rattle.std.specs.List.{list_any}
-use Rattle.std.specs.Option.{is_some}
+use Rattle.std.specs.Option.{is_some, option_map}
 use Rattle.std.specs.Str.{bytes_eq}
 use Rattle.px_code.specs.declared.side.Side.{Side}
 use Rattle.px_code.specs.declared.side.Side.TheVariants.{App, Db}
@@ -10,7 +10,7 @@ use Rattle.px_normal.specs.declared.node.Node.{Node}
 use Rattle.px_lex.specs.Names.{is_identifier}
 use Rattle.px_job.specs.Arguments.{is_digits}
 use Rattle.px_job.specs.Numbers.{number}
-use Rattle.px_job.specs.Rules.{Rule, least_code, unless}
+use Rattle.px_job.specs.Rules.{Rule, least_code, is_absent, unless}
 use Rattle.px_job.specs.Prints.{prints_of, is_print}
 use Rattle.px_job.specs.Selecting.{is_selector, selected}
 use Rattle.px_job.specs.declared.job.Part.{Part}
@@ -157,17 +157,16 @@ is_db App = false
 abbrev pub places_print : List ℕ → Side → List ℕ → Bool
 places_print prints side numbers = is_db side && list_any (is_print prints) numbers
 
-abbrev pub side_of : Code → Parts → Part → Side → Option (List ℕ) → Result Parts JobCode
-side_of code parts part side None = Err J14
-side_of code parts part side (Some numbers) = if places_print (prints_of code) side numbers then Err J15 else Ok (record parts { last = Some (placed side numbers part) })
+-- about the last part that has begun, and the nodes that are selected
+abbrev pub side_rules : List ℕ → Side → Option Part → Option (List ℕ) → List Rule
+side_rules prints side last numbers = (is_absent last, J13) ∷ (is_absent numbers, J14) ∷ (places_print prints side (unwrap_or numbers []), J15) ∷ []
 
-abbrev pub side_in : Code → Parts → Side → List (List ℕ) → Option Part → Result Parts JobCode
-side_in code parts side words None = Err J13
-side_in code parts side words (Some part) = side_of code parts part side (selected code words)
+abbrev pub side_of : Code → Parts → Side → Option (List ℕ) → Result Parts JobCode
+side_of code parts side numbers = unless (least_code (side_rules (prints_of code) side parts.last numbers)) (record parts { last = option_map (placed side (unwrap_or numbers [])) parts.last })
 
 -- the words behind `app` or `db`: a selector
 abbrev pub judged_side : Code → Parts → Side → List (List ℕ) → Result Parts JobCode
-judged_side code parts side words = if is_selector words then side_in code parts side words parts.last else Err J1
+judged_side code parts side words = if is_selector words then side_of code parts side (selected code words) else Err J1
 
 -- ---- all parts
 

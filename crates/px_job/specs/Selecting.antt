@@ -5,7 +5,6 @@ use Rattle.std.specs.Str.{bytes_eq}
 use denote.Ref.{Bor}
 use Rattle.px_outside.specs.Numbers.{u64_of}
 use Rattle.px_normal.specs.declared.code.Code.{Code}
-use Rattle.px_normal.specs.declared.node.Node.{Node}
 use Rattle.px_job.specs.Names.{is_dotted}
 use Rattle.px_job.specs.Arguments.{is_digits}
 use Rattle.px_job.specs.Prints.{prints_of}

@@ -178,6 +178,9 @@ pub(crate) fn is_part_line(line: &[u8]) -> bool
     let Some((verb, rest)) = split_word(line) else {
         return false;
     };
+    if begins_comment(verb) {
+        return false;
+    }
     matches!(verb_of(verb), Some(Verb::Part)) && is_part(rest)
 }
 

@@ -31,6 +31,6 @@ mod words;
 
 pub use beyond::first_beyond;
 pub use job::{Call, Job, JobCode, JobError, JobFault, Part, Row};
-pub use laws::{lines_are_filed, words_are_spelled};
+pub use laws::{jobs_fit, lines_are_filed, words_are_spelled};
 pub use read::read_job;
 pub use settings::Settings;

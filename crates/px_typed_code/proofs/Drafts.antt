@@ -1,7 +1,6 @@
 -- What each step of lowering keeps: slots and nodes only grow, and what is emitted is typed.
-use Rattle.std.proofs.Common.{◌≡◌, ℕ, zero, suc, ◌+◌, Bool, true, false, List, [], ◌∷◌, ◌++◌, length, map, Option, Some, None, slice_get, refl, sym, ap, ◌∙◌, subst, arith}
+use Rattle.std.proofs.Common.{◌≡◌, ℕ, zero, suc, ◌+◌, true, false, List, [], ◌∷◌, ◌++◌, length, Option, Some, None, slice_get, refl, sym, ap, ◌∙◌, subst, arith, length-append}
 use Rattle.px_value.specs.declared.value.Value.TheVariants as value
-use Rattle.px_value.specs.declared.op.Op.TheVariants as op
 use Rattle.px_facts.specs.declared.types.Ty.{Ty as Static}
 use Rattle.px_facts.specs.declared.types.Ty.TheVariants as static
 use Rattle.px_facts.specs.Types.{is_void, is_null}
@@ -29,7 +28,9 @@ use Rattle.px_lowering.specs.declared.valued.Step.TheVariants as step
 use Rattle.px_lowering.specs.declared.valued.Had.{Had}
 use Rattle.px_lowering.specs.declared.valued.Had.TheVariants.{Held, Chosen, Made}
 use Rattle.px_lowering.specs.Types.{code_type}
-use Rattle.px_lowering.specs.Emit.{Lasted, Operated, Temped, node_at, noded, emitted, writes, with_temp, operated, temped, slotted, widened_operand, widened, fitted}
+use Rattle.px_lowering.specs.Emit.{Lasted, Operated, Temped, node_at, emitted, writes, with_temp, operated, temped, slotted, widened_operand, widened, fitted}
+use Rattle.px_typed_code.specs.Nodes.{nodes_in, all_nodes}
+use Rattle.px_typed_code.proofs.Counted.{IsCounted, counted_then, counted_none, counted_first, counted_by, nodes_do, all_next}
 use Rattle.px_typed_code.proofs.Operators.{never, never_so}
 
 -- ---- lists that grow
@@ -117,20 +118,22 @@ module _ (P : Checked) (C : Code) (gives : Option Ty) where
   abbrev pub Trees : List Ty → Draft → Type 0
   Trees slots o = AreTypedTrees C gives slots o.trees
 
-  -- From one draft to the next slots and nodes grow, and statements stay typed, over the slots and the nodes that there are in the end.
+  -- From one draft to the next slots and nodes grow, statements stay typed, over the slots and the nodes that there are in the end, and their nodes stay in order.
   pub record Goes (o o' : Draft) : Type 0 where
     pub slots : Grows o.slots o'.slots
     pub nodes : Grows o.nodes o'.nodes
     pub trees : (slots : List Ty) → Grows o'.slots slots → Grows o'.nodes C.nodes → Trees slots o → Trees slots o'
+    pub order : (first : ℕ) → IsCounted first (all_nodes o.trees) (length o.nodes) → IsCounted first (all_nodes o'.trees) (length o'.nodes)
 
   pub goes_none : (o : Draft) → Goes o o
-  goes_none o = record { slots = λ place x h. h; nodes = λ place x h. h; trees = λ slots g n h. h }
+  goes_none o = record { slots = λ place x h. h; nodes = λ place x h. h; trees = λ slots g n h. h; order = λ first h. h }
 
   pub goes_then : (a b c : Draft) → Goes a b → Goes b c → Goes a c
   goes_then a b c x y = record {
     slots = λ place t h. y.slots place t (x.slots place t h);
     nodes = λ place t h. y.nodes place t (x.nodes place t h);
     trees = λ slots g n h. y.trees slots g n (x.trees slots (λ place t e. g place t (y.slots place t e)) (λ place t e. n place t (y.nodes place t e)) h);
+    order = λ first h. y.order first (x.order first h);
   }
 
   pub trees_next : (slots : List Ty) (ts : List Tree) (t : Tree) → AreTypedTrees C gives slots ts → IsTypedTree C gives slots t → AreTypedTrees C gives slots (ts ++ t ∷ [])
@@ -143,18 +146,22 @@ module _ (P : Checked) (C : Code) (gives : Option Ty) where
       let e : suc (length nodes) ≡ length nodes + 1 = omega arith in
       (n, subst (λ k. numbered C.nodes k ≡ Some n) e (g (length nodes) n (last_get nodes n [])))
 
+  -- one more tree, whose nodes are the next one and those behind it
+  pub adds_node : (ts : List Tree) (t : Tree) (nodes : List Node) (n : Node) (ks : List ℕ) (first last : ℕ) → IsCounted first (all_nodes ts) (length nodes) → nodes_in t ≡ (length nodes + 1) ∷ ks → IsCounted (length (nodes ++ n ∷ []) + 1) ks last → IsCounted first (all_nodes (ts ++ t ∷ [])) last
+  adds_node ts t nodes n ks first last h e k =
+      counted_by first last _ _ (all_next ts t ∙ ap (λ (xs : List ℕ). all_nodes ts ++ xs) e)
+      (counted_then first (length nodes) last (all_nodes ts) _ h (counted_first (length nodes) (length (nodes ++ n ∷ [])) last ks (length-append nodes (n ∷ [])) k))
+
   pub emits : (word : Word) (token : ℕ) (counter : Counter) (o : Draft) → ((slots : List Ty) → Grows o.slots slots → IsTypedWord C gives slots word) → Goes o (emitted P word token counter o)
   emits word token counter o h = record {
     slots = λ place x e. e;
     nodes = grows_append o.nodes (node_at P o.method token counter ∷ []);
     trees = λ slots g n k. trees_next slots o.trees _ k (typed.IsTypedTree.does (length o.nodes + 1) word refl (node_is o.nodes (node_at P o.method token counter) n) (h slots g));
+    order = λ first h. adds_node o.trees (Do (length o.nodes + 1) word) o.nodes (node_at P o.method token counter) [] first _ h (nodes_do (length o.nodes + 1) word) (counted_none _);
   }
 
-  pub nodes_go : (token : ℕ) (counter : Counter) (o : Draft) → Goes o (noded P token counter o)
-  nodes_go token counter o = record { slots = λ place x e. e; nodes = grows_append o.nodes (node_at P o.method token counter ∷ []); trees = λ slots g n k. k }
-
   pub temps_go : (t : Ty) (o : Draft) → Goes o (with_temp t o)
-  temps_go t o = record { slots = grows_append o.slots (t ∷ []); nodes = λ place x e. e; trees = λ slots g n k. k }
+  temps_go t o = record { slots = grows_append o.slots (t ∷ []); nodes = λ place x e. e; trees = λ slots g n k. k; order = λ first k. k }
 
   -- ---- values
 
@@ -203,3 +210,76 @@ module _ (P : Checked) (C : Code) (gives : Option Ty) where
   slotted_goes slot for id token (Held a) t o h v e = emits (w.Set slot a) for _ o (λ slots g. (code_type t, ty_more o.slots slots a (code_type t) g (has_ty o.slots t a h), g slot (code_type t) e))
   slotted_goes slot for id token (Chosen from) t o h v e = emits (w.Set slot (Slot from)) for _ o (λ slots g. (code_type t, g from (code_type t) (h.1 ∙ ap (λ u. Some (code_type u)) (sym h.0)), g slot (code_type t) e))
   slotted_goes slot for id token (Made s u counter) t o h v e = emits (writes s slot) token counter o (λ slots g. h.1.writes slots g v slot (g slot (code_type t) e))
+
+  -- ---- an int where a long is wanted
+
+  widened_fine : (id token : ℕ) (had : Had) (o : Draft) → HadFits o.slots static.Int had → Fine o static.Long (widened_operand id token (operated P token had o))
+  widened_fine id token had o h =
+      let a = operated_fine token had static.Int o h refl in
+      let x = operated P token had o in
+      record {
+        goes = a.goes;
+        had = (refl, record {
+          null = refl;
+          writes = λ more g v to e. (ty.Int, ty.Int, ty.Long, ty_more x.out.slots more x.operand ty.Int g (has_ty x.out.slots static.Int x.operand a.operand), refl, refl, e);
+          unused = λ more g v. never_so v;
+        });
+      }
+
+  widens : (id token : ℕ) (had : Had) (o : Draft) → HadFits o.slots static.Int had → Fine o static.Long (widened P id token had o)
+  widens id token (Held (Literal (value.Int n))) o h = record { goes = goes_none o; had = OperandFits.plain static.Long (Literal (value.Long n)) refl refl }
+  widens id token (Held (Slot k)) o h = widened_fine id token (Held (Slot k)) o h
+  widens id token (Held (Literal (value.Long n))) o h = widened_fine id token (Held (Literal (value.Long n))) o h
+  widens id token (Held (Literal (value.Bool b))) o h = widened_fine id token (Held (Literal (value.Bool b))) o h
+  widens id token (Held (Literal (value.Text bytes))) o h = widened_fine id token (Held (Literal (value.Text bytes))) o h
+  widens id token (Held (Literal value.Null)) o h = widened_fine id token (Held (Literal value.Null)) o h
+  widens id token (Held (Literal (value.Ref r))) o h = widened_fine id token (Held (Literal (value.Ref r))) o h
+  widens id token (Chosen slot) o h = widened_fine id token (Chosen slot) o h
+  widens id token (Made s u counter) o h = widened_fine id token (Made s u counter) o h
+
+  abbrev as_it_is : (id token : ℕ) → Had → Draft → Lasted
+  as_it_is id token had o = record { out = o; value = record { id = id; token = token; had = had } }
+
+  fitted_same : (t : Static) (id token : ℕ) (had : Had) (o : Draft) → fitted P t t id token had o ≡ as_it_is id token had o
+  fitted_same static.Unknown id token had o = refl
+  fitted_same static.Void id token had o = refl
+  fitted_same static.Null id token had o = refl
+  fitted_same static.Int id token had o = refl
+  fitted_same static.Long id token had o = refl
+  fitted_same static.Boolean id token had o = refl
+  fitted_same static.Text id token had o = refl
+  fitted_same (static.Object class) id token had o = refl
+  fitted_same (static.Array of) id token had o = refl
+  fitted_same static.ResultSet id token had o = refl
+
+  fitted_unknown : (t : Static) (id token : ℕ) (had : Had) (o : Draft) → fitted P t static.Unknown id token had o ≡ as_it_is id token had o
+  fitted_unknown static.Unknown id token had o = refl
+  fitted_unknown static.Void id token had o = refl
+  fitted_unknown static.Null id token had o = refl
+  fitted_unknown static.Int id token had o = refl
+  fitted_unknown static.Long id token had o = refl
+  fitted_unknown static.Boolean id token had o = refl
+  fitted_unknown static.Text id token had o = refl
+  fitted_unknown (static.Object class) id token had o = refl
+  fitted_unknown (static.Array of) id token had o = refl
+  fitted_unknown static.ResultSet id token had o = refl
+
+  stays : (t : Static) (id token : ℕ) (had : Had) (o : Draft) → HadFits o.slots t had → Fine o t (as_it_is id token had o)
+  stays t id token had o h = record { goes = goes_none o; had = h }
+
+  null_had : (to : Static) (slots : List Ty) (had : Had) → MayBeNull to → HadFits slots static.Null had → HadFits slots to had
+  null_had to slots (Held _) m (OperandFits.null _ h) = OperandFits.null to m
+  null_had to slots (Held _) m (OperandFits.plain _ a n h) = never n
+  null_had to slots (Chosen slot) m h = absurd (cc h.0)
+  null_had to slots (Made s u counter) m h = never h.1.null
+
+  pub fitted_fine : (from to : Static) → Fits from to → (id token : ℕ) (had : Had) (o : Draft) → HadFits o.slots from had → Fine o to (fitted P from to id token had o)
+  fitted_fine _ _ (typing.Fits.same t) id token had o h = subst (λ x. Fine o t x) (sym (fitted_same t id token had o)) (stays t id token had o h)
+  fitted_fine _ _ typing.Fits.wide id token had o h = widens id token had o h
+  fitted_fine _ _ (typing.Fits.null to m) id token had o h = stays to id token had o (null_had to o.slots had m h)
+
+  -- where the type that is wanted isn't known, which is then no long
+  pub unknown_fine : (from to : Static) → Fits from to → (to ≡ static.Long → ⊥) → (id token : ℕ) (had : Had) (o : Draft) → HadFits o.slots from had → Fine o to (fitted P from static.Unknown id token had o)
+  unknown_fine _ _ (typing.Fits.same t) n id token had o h = subst (λ x. Fine o t x) (sym (fitted_unknown t id token had o)) (stays t id token had o h)
+  unknown_fine _ _ typing.Fits.wide n id token had o h = absurd (n refl)
+  unknown_fine _ _ (typing.Fits.null to m) n id token had o h = stays to id token had o (null_had to o.slots had m h)
