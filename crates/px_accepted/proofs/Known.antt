@@ -15,7 +15,7 @@ use Rattle.px_rules.specs.Breaches.{breach_if}
 use Rattle.px_rules.specs.Names.{empty, has_name}
 use Rattle.px_rules.specs.Members.{no_members, field_type, with_member, class_members, numbers_of, classes_of}
 use Rattle.px_rules.specs.Programs.{field_names, method_names, members_notes, all_members, class_names, declared_notes, notes_of, first_breach_of}
-use Rattle.px_rules.specs.Checked.{class_known, facts_of, checked_of}
+use Rattle.px_rules.specs.Checked.{type_in, class_known, facts_of, checked_of}
 use Rattle.px_soundness.proofs.Clean.{Clean, clean_left, clean_right, not_broken, all_clean}
 use Rattle.px_soundness.proofs.Scopes.{length_push, declare_fresh}
 use Rattle.px_preservation.specs.Laws.{fields_in, AreKnown}
@@ -43,7 +43,7 @@ module _ (numbers : Table ℕ) where
   all_known [] c = tt
   all_known (x ∷ cs) c =
       let own = fields_counted x.members 0 no_members (clean_left (members_notes numbers 0 no_members x.members) _ c) in (
-        sym (length-map _ (class_members numbers x).fields.values ∙ own),
+        (let mapped = length-map (class_members numbers x).fields.values type_in in omega (arith, mapped, own)),
         all_known cs (clean_right (members_notes numbers 0 no_members x.members) _ c),
       )
 

@@ -125,7 +125,7 @@ module _ (number : ℕ) where
   in_members _ _ _ (AreMembers.method n k m x ms r p b d) = both n k m _ _ (in_stmt n k x.body b) (in_members k m ms d)
 
   given_append : (xs ys : List Method) → given_methods number (xs ++ ys) ≡ given_methods number xs + given_methods number ys
-  given_append [] ys = refl
+  given_append [] ys = omega (arith)
   given_append (x ∷ xs) ys = let rest = given_append xs ys in omega (arith, rest)
 
   in_classes : (n m : ℕ) (cs : List Class) → AreClasses n cs m → Within number n m (given_methods number (methods_of cs))
