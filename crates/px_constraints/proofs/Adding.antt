@@ -7,7 +7,7 @@ use Rattle.px_constraints.specs.Sites.{has, with_site_if}
 use Rattle.px_constraints.specs.System.{At}
 use Rattle.px_constraints.specs.Search.{FactsOf, fact, items_of, items_at, noted_unless, added_at, added, added_each, added_all}
 use Rattle.px_constraints.proofs.Elements.{in_end, still_in, in_last, in_none, set_cases, set_here, length-slice_set}
-use Rattle.px_constraints.proofs.Marks.{has_at, left, left_new, total, total_set}
+use Rattle.px_constraints.proofs.Marks.{has_at, left_new, total, total_set}
 
 -- a variable has a site
 abbrev pub Has : FactsOf → ℕ → ℕ → Type 0

@@ -1,5 +1,5 @@
 -- The search from its beginning to its end.
-use Rattle.std.proofs.Common.{◌≡◌, ◌<◌, ℕ, zero, suc, List, [], ◌∷◌, ◌++◌, length, map, Some, slice_get, refl, sym, ap, ◌∙◌, inl, ⊎_elim, subst, arith}
+use Rattle.std.proofs.Common.{◌≡◌, ◌<◌, ℕ, zero, suc, List, [], ◌∷◌, ◌++◌, length, map, refl, sym, ap, ◌∙◌, inl, ⊎_elim, subst, arith}
 use Rattle.std.proofs.lemmas.Option.{same_Some}
 use Rattle.px_constraints.specs.declared.facts.Fact.{Fact}
 use Rattle.px_constraints.specs.Systems.{System}

@@ -1,5 +1,5 @@
 -- A search by a worklist: each step follows one fact.
-use Rattle.std.specs.Prelude.{ℕ, ◌+◌, Bool, true, false, List, [], ◌∷◌, ◌++◌, map, Option, Some, None, slice_get, slice_set}
+use Rattle.std.specs.Prelude.{ℕ, Bool, true, false, List, [], ◌∷◌, ◌++◌, map, Option, Some, None, slice_get, slice_set}
 use Rattle.px_constraints.specs.declared.facts.Fact.{Fact}
 use Rattle.px_constraints.specs.declared.system.Look.{Look}
 use Rattle.px_constraints.specs.declared.system.Cells.{Cells}

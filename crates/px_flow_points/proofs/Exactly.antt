@@ -1,7 +1,6 @@
 -- What is derived from the constraints of code whose numbers exist is points-to.
 use Rattle.std.proofs.Common.{◌≡◌, ◌<◌, ℕ, zero, suc, ◌+◌, List, [], ◌∷◌, ◌++◌, length, Option, Some, None, slice_get, refl, sym, ap, ◌∙◌, ⊎_elim, subst, arith}
 use Rattle.std.proofs.lemmas.Option.{same_Some}
-use Rattle.px_normal.specs.declared.ty.Ty.{Ty}
 use Rattle.px_constraints.specs.declared.facts.Fact.{Fact}
 use Rattle.px_constraints.specs.declared.system.Look.{Look}
 use Rattle.px_constraints.specs.declared.system.Cells.{Cells}
@@ -18,7 +17,6 @@ use Rattle.px_normal.specs.declared.word.Word.{Word}
 use Rattle.px_normal.specs.declared.word.Word.TheVariants as w
 use Rattle.px_normal.specs.declared.method.Method.{Method}
 use Rattle.px_normal.specs.declared.code.Code.{Code}
-use Rattle.px_value.specs.declared.header.Kind.{Kind}
 use Rattle.px_value.specs.declared.header.Kind.TheVariants as kind
 use Rattle.px_flow_points.specs.Places.{site_kind, IsOfElements, HasPart, HasSlot, slot_ty}
 use Rattle.px_flow_points.specs.Places as places

@@ -1,5 +1,5 @@
 -- What is kept is exactly points-to.
-use Rattle.std.proofs.Common.{◌≡◌, ◌<◌, ◌^◌, ℕ, zero, suc, List, [], ◌∷◌, Option, Some, slice_get, refl, sym, ap, ◌∙◌, subst}
+use Rattle.std.proofs.Common.{◌≡◌, ◌<◌, ◌^◌, ℕ, zero, suc, List, [], ◌∷◌, Option, Some, sym, ap, ◌∙◌, subst}
 use Rattle.px_constraints.specs.declared.system.Cells.{Cells}
 use Rattle.px_constraints.specs.Systems.{System}
 use Rattle.px_constraints.specs.System.{At, cell_of, Derives, AreThere}
@@ -7,12 +7,10 @@ use Rattle.px_constraints.specs.Search.{FactsOf, items_at, IsLeast}
 use Rattle.px_constraints.specs.Sets.{Rises, IsSetOf, AreSetsOf}
 use Rattle.px_normal.specs.declared.code.Code.{Code}
 use Rattle.px_flow_points.specs.declared.part.Part.{Part}
-use Rattle.px_flow_points.specs.Places.{HasPart, HasSlot}
 use Rattle.px_flow_points.specs.There.{NumbersExist}
-use Rattle.px_flow_points.specs.Points.{InSlot, InPart, PointsTo}
 use Rattle.px_flow_points.specs.Numbers.{slot_var, firsts, behind, cells_from, method_sizes, all_site_sizes}
 use Rattle.px_flow_points.specs.Laws.{Both}
-use Rattle.px_flow_points.specs.Exact.{part_number, system_of, AreNumbered, AreExact, PointsOf, slot_set, cell_set, set_of_cell, ArePoints}
+use Rattle.px_flow_points.specs.Exact.{part_number, system_of, AreNumbered, AreExact, PointsOf, cell_set, set_of_cell, ArePoints}
 use Rattle.px_flow_points.proofs.Grouping.{groups}
 use Rattle.px_flow_points.proofs.Exactly.{derives_exactly}
 use Rattle.px_flow_points.proofs.Numbering.{are_numbered, part_below, has_cells}

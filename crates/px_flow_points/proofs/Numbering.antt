@@ -1,18 +1,16 @@
 -- Slots, results and parts have numbers of their own.
-use Rattle.std.proofs.Common.{◌≡◌, ◌≤◌, ◌<◌, ℕ, zero, suc, ◌+◌, ◌-◌, ◌*◌, ◌^◌, nat_lt, Bool, true, false, List, [], ◌∷◌, map, length, Option, Some, None, slice_get, unwrap_or, refl, sym, ap, ◌∙◌, ⊎_elim, subst, if◌then◌else◌, arith}
+use Rattle.std.proofs.Common.{◌≡◌, ◌≤◌, ◌<◌, ℕ, zero, suc, ◌+◌, ◌-◌, ◌^◌, nat_lt, Bool, true, false, List, [], ◌∷◌, map, length, Option, Some, None, slice_get, unwrap_or, refl, sym, ap, ◌∙◌, subst, if◌then◌else◌, arith}
 use Rattle.std.proofs.lemmas.Option.{same_Some, slice_get_within}
 use Rattle.px_value.specs.declared.header.Kind.{Kind}
 use Rattle.px_value.specs.declared.header.Kind.TheVariants as kind
 use Rattle.px_constraints.specs.declared.system.Cells.{Cells}
 use Rattle.px_constraints.specs.System.{part_of_cells, cell_of}
 use Rattle.px_normal.specs.declared.ty.Ty.{Ty}
-use Rattle.px_normal.specs.declared.class.Field.{Field as FieldOf}
 use Rattle.px_normal.specs.declared.method.Method.{Method}
 use Rattle.px_normal.specs.declared.code.Site.{Site}
 use Rattle.px_normal.specs.declared.code.Code.{Code}
 use Rattle.px_normal.specs.First.{numbered, fields_of}
 use Rattle.px_flow_points.specs.declared.part.Part.{Part}
-use Rattle.px_flow_points.specs.declared.part.Part.TheVariants.{Field, Elements}
 use Rattle.px_flow_points.specs.Places.{site_kind, kind_of_site, HasSite, IsOfElements, HasPart, slots_of, slot_ty}
 use Rattle.px_flow_points.specs.Places as places
 use Rattle.px_flow_points.specs.Statements.{IsMethod}

@@ -1,11 +1,11 @@
 -- The constraints of code whose numbers exist name variables and sites that are there.
-use Rattle.std.proofs.Common.{◌≡◌, ◌<◌, ℕ, zero, ◌∷◌, List, length, Option, Some, refl, sym, ap, ◌∙◌, subst, arith}
+use Rattle.std.proofs.Common.{◌≡◌, ◌<◌, ℕ, List, length, Some, refl, sym, ap, ◌∙◌, subst, arith}
 use Rattle.px_constraints.specs.declared.facts.Fact.{Fact}
 use Rattle.px_constraints.specs.declared.system.Look.{Look}
 use Rattle.px_constraints.specs.declared.system.Cells.{Cells}
 use Rattle.px_constraints.specs.declared.system.Constraint.TheVariants.{Start, Copies, Loads, Stores}
 use Rattle.px_constraints.specs.Systems.{System}
-use Rattle.px_constraints.specs.System.{At, cell_of, copies_at, loads_at, stores_at, AreThere}
+use Rattle.px_constraints.specs.System.{cell_of, AreThere}
 use Rattle.px_normal.specs.declared.word.Operand.TheVariants.{Slot}
 use Rattle.px_normal.specs.declared.word.Word.{Word}
 use Rattle.px_normal.specs.declared.word.Word.TheVariants as w

@@ -1,5 +1,5 @@
 -- What statements read and write is exactly what points-to has for them.
-use Rattle.std.proofs.Common.{◌≡◌, ◌<◌, ℕ, zero, suc, List, [], ◌∷◌, Some, slice_get, refl, subst, arith}
+use Rattle.std.proofs.Common.{◌≡◌, ◌<◌, ℕ, zero, suc, [], ◌∷◌, Some, slice_get, refl, subst, arith}
 use Rattle.std.proofs.lemmas.Option.{same_Some}
 use Rattle.px_constraints.specs.System.{At}
 use Rattle.px_constraints.specs.Sets.{Rises}
@@ -8,8 +8,7 @@ use Rattle.px_normal.specs.declared.word.Word.{Word}
 use Rattle.px_normal.specs.declared.word.Word.TheVariants as w
 use Rattle.px_normal.specs.declared.code.Code.{Code}
 use Rattle.px_flow_points.specs.declared.part.Part.{Part}
-use Rattle.px_flow_points.specs.declared.part.Part.TheVariants.{Field, Elements}
-use Rattle.px_flow_points.specs.Statements.{HasStatement}
+use Rattle.px_flow_points.specs.declared.part.Part.TheVariants.{Elements}
 use Rattle.px_flow_points.specs.There.{WordThere, NumbersExist}
 use Rattle.px_flow_points.specs.Points.{ReadsPart, WritesPart}
 use Rattle.px_flow_points.specs.Points as points

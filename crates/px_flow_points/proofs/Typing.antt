@@ -27,7 +27,7 @@ use Rattle.px_flow_points.specs.There.{OperandThere, SlotThere, WordThere, Looks
 use Rattle.px_flow_points.specs.There as asked
 use Rattle.px_flow_points.specs.TypedPoints.{TypedNumbersExist}
 use Rattle.px_normal.specs.declared.method.Tree.{Tree}
-use Rattle.px_normal.specs.declared.method.Tree.{Tree-F, out-Tree, roll-Tree, out-roll-Tree}
+use Rattle.px_normal.specs.declared.method.Tree.{Tree-F, out-Tree, out-roll-Tree}
 use Rattle.px_normal.specs.declared.method.Tree.TheOpen.{Tree-F as t}
 use Rattle.px_normal.specs.declared.method.Tree.TheVariants.{Do, If, Loop, rolls-If, rolls-Loop}
 

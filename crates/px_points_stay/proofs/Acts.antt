@@ -1,5 +1,5 @@
 -- Acts that are safe keep a heap that fits.
-use Rattle.std.proofs.Common.{◌≡◌, ℕ, zero, suc, Bool, true, false, List, [], ◌∷◌, ◌++◌, length, map, replicate, Option, Some, None, is_some, Ok, Err, refl, sym, ap, ◌∙◌, subst}
+use Rattle.std.proofs.Common.{◌≡◌, ℕ, zero, suc, Bool, true, false, List, [], ◌∷◌, ◌++◌, length, map, Option, Some, None, is_some, Ok, Err, sym, ◌∙◌, subst}
 use Rattle.std.specs.List.{AllByRecursion}
 use Rattle.std.proofs.lemmas.Option.{same_Some}
 use Rattle.px_value.specs.declared.value.Value.{Value}
@@ -9,8 +9,8 @@ use Rattle.px_value.specs.declared.header.Kind.{Kind}
 use Rattle.px_value.specs.declared.header.Kind.TheVariants as kind
 use Rattle.px_value.specs.declared.object.Object.{Object}
 use Rattle.px_value.specs.Heap.{cell_at, written}
-use Rattle.px_value.specs.Outcome.{Flow, Goes, Returns}
-use Rattle.px_effects.specs.Act.{Act, Comes, Prints, Reads, Writes, Looks, Makes, Place, Acted, acted, Ends, Came, Printed, value_at, new_object, has_no_room, with_place_if, unless_full, quiet}
+use Rattle.px_value.specs.Outcome.{Returns}
+use Rattle.px_effects.specs.Act.{Act, Comes, Prints, Reads, Writes, Looks, Makes, Place, Acted, acted, Ends, Came, Printed, value_at, new_object, has_no_room, with_place_if, unless_full}
 use Rattle.px_effects.specs.Cells.{first_of, first_cells, element_default, blank_rows}
 use Rattle.px_normal.specs.declared.ty.Ty.{Ty}
 use Rattle.px_normal.specs.declared.ty.Ty.TheVariants as ty
@@ -26,7 +26,7 @@ use Rattle.px_flow_points.specs.Places.{site_kind}
 use Rattle.px_flow_points.specs.Points.{InSlot, InPart, ReadsPart, WritesPart}
 use Rattle.px_points_stay.specs.Fits.{IsNoReference, part_by, header_at, Leads, HeapFits, Within}
 use Rattle.px_points_stay.specs.Laws.{IsBack}
-use Rattle.px_points_stay.proofs.Lists.{all_map, all_replicate}
+use Rattle.px_points_stay.proofs.Lists.{all_replicate}
 use Rattle.px_points_stay.proofs.Heaps.{Grows, grows_written, grows_made, fits_written, fits_made}
 
 -- ---- new objects hold no reference

@@ -1,5 +1,5 @@
 -- The first heap of a session fits.
-use Rattle.std.proofs.Common.{◌≡◌, ℕ, zero, suc, List, length, Some, slice_get, refl, sym, ap, ◌∙◌, subst}
+use Rattle.std.proofs.Common.{◌≡◌, ℕ, zero, suc, length, Some, refl, subst}
 use Rattle.std.proofs.lemmas.Option.{same_Some}
 use Rattle.px_value.specs.declared.value.Value.TheVariants.{Ref}
 use Rattle.px_value.specs.declared.header.Header.{Header}
@@ -9,7 +9,7 @@ use Rattle.px_normal.specs.declared.code.Code.{Code}
 use Rattle.px_normal.specs.First.{fresh_of}
 use Rattle.px_flow_points.specs.Places.{site_kind}
 use Rattle.px_flow_points.specs.Points.{InPart}
-use Rattle.px_points_stay.specs.Fits.{IsNoReference, part_by, header_at, Leads, HeapFits}
+use Rattle.px_points_stay.specs.Fits.{IsNoReference, part_by, header_at, Leads}
 use Rattle.px_points_stay.specs.Laws.{first_heap, FirstFits}
 use Rattle.px_points_stay.proofs.Lists.{all_at}
 use Rattle.px_points_stay.proofs.Acts.{plain_first}

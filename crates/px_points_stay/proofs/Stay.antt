@@ -1,18 +1,18 @@
 -- Runs stay within points-to: words, trees, loops, frames.
-use Rattle.std.proofs.Common.{◌≡◌, ℕ, zero, suc, ◌+◌, Bool, true, false, nat_lt, List, [], ◌∷◌, ◌++◌, map, length, Option, Some, None, unwrap_or, slice_get, slice_set, Result, Ok, Err, refl, sym, ap, ◌∙◌, ◌⊎◌, inl, inr, ⊎_elim, subst, if◌then◌else◌}
+use Rattle.std.proofs.Common.{◌≡◌, ℕ, zero, suc, ◌+◌, Bool, true, false, nat_lt, List, [], ◌∷◌, Option, Some, None, unwrap_or, slice_get, Ok, Err, refl, sym, ap, ◌∙◌, ◌⊎◌, inl, inr, ⊎_elim, subst, if◌then◌else◌}
 use Rattle.std.specs.List.{AllByRecursion}
 use Rattle.std.proofs.lemmas.Option.{same_Some}
 use Rattle.px_value.specs.declared.value.Value.{Value}
 use Rattle.px_value.specs.declared.value.Value.TheVariants.{Null, Ref}
 use Rattle.px_value.specs.declared.object.Object.{Object}
-use Rattle.px_value.specs.declared.thrown.Thrown.TheVariants.{TurnsOut, StackOverflowError, OpsOut}
+use Rattle.px_value.specs.declared.thrown.Thrown.TheVariants.{TurnsOut}
 use Rattle.px_value.specs.declared.answer.Answer.{Answer}
 use Rattle.px_value.specs.declared.statement.TableOp.{TableOp}
-use Rattle.px_value.specs.Outcome.{Outcome, Gives, Throws, Asks, Run, then_run, ◌>>=◌, pure, throw, beside, on_shared, Flow, Goes, Returns, goes_on, in_order}
+use Rattle.px_value.specs.Outcome.{Outcome, Gives, Throws, Asks, then_run, ◌>>=◌, pure, throw, beside, on_shared, Flow, Goes, Returns, goes_on}
 use Rattle.px_effects.specs.Run.{Shared, Ask, turn, asked, in_world, max_turns}
-use Rattle.px_effects.specs.Act.{Act, Place, Acted, acted, Ends, Came, Printed, Landed, landed, printed_if, may_print, left}
+use Rattle.px_effects.specs.Act.{Act, Place, Acted, acted, Ends, Came, Printed, Landed, landed, printed_if, may_print}
 use Rattle.px_effects.specs.Cells.{first_cells}
-use Rattle.px_effects.specs.Operations.{Work, Acts, Operates, Said, Answers, Out, told, counted, with_said, max_operations}
+use Rattle.px_effects.specs.Operations.{Acts, Operates, Said, Answers, Out, told, counted, with_said, max_operations}
 use Rattle.px_normal.specs.declared.ty.Ty.{Ty}
 use Rattle.px_normal.specs.declared.word.Operand.{Operand}
 use Rattle.px_normal.specs.declared.word.Operand.TheVariants.{Slot}
@@ -26,18 +26,18 @@ use Rattle.px_normal.specs.declared.code.Code.{Code}
 use Rattle.px_normal.specs.First.{Slots, numbered, fresh_of, default_of, blank, with_first, first_slots}
 use Rattle.px_normal.specs.Run.{Ran, Traced, Frame, Here, There, with_ran, on_traced, noted}
 use Rattle.px_normal.specs.Words.{Does, Works, Invokes, operand, does_of, answer_of, to_of, with_slot, is_return, result_of, is_true}
-use Rattle.px_normal.specs.CodeRun.{flow_if, ended, after_act, act_run, Calls, comes_back, call_run, tested, loop, all_turns, tree_step, tree_run, body_run, flow_result, leaves_frame, enters, calls_in, all_frames, starts, code_run, word_run, does_run, work_run}
+use Rattle.px_normal.specs.CodeRun.{flow_if, ended, after_act, act_run, Calls, comes_back, tested, loop, all_turns, tree_step, tree_run, body_run, flow_result, leaves_frame, enters, calls_in, all_frames, starts, code_run, word_run, does_run}
 use Rattle.px_normal.specs.Typed.{IsTyped}
 use Rattle.px_flow_points.specs.Statements.{Stands, here, in_yes, in_no, in_first, in_body, IsMethod, HasStatement}
 use Rattle.px_flow_points.specs.Points.{InSlot, PointsTo, ReadsPart, WritesPart}
 use Rattle.px_flow_points.specs.Points as points
 use Rattle.px_flow_points.proofs.Trees.{TreeCases, each_tree}
-use Rattle.px_flow_points.proofs.Typing.{Word_in, word_in}
-use Rattle.px_points_stay.specs.Fits.{IsNoReference, IsPlainAnswer, IsPlainOutcome, AnswersPlainly, header_at, Leads, HeapFits, Within, RanWithin}
-use Rattle.px_points_stay.specs.Laws.{LeavesFit, IsBack, EndsFit, RunsStay}
+use Rattle.px_flow_points.proofs.Typing.{word_in}
+use Rattle.px_points_stay.specs.Fits.{IsNoReference, IsPlainAnswer, IsPlainOutcome, AnswersPlainly, Leads, HeapFits, Within, RanWithin}
+use Rattle.px_points_stay.specs.Laws.{IsBack, EndsFit}
 use Rattle.px_points_stay.proofs.Lists.{all_map, all_append, all_at, at_set, from_map}
 use Rattle.px_points_stay.proofs.Heaps.{Grows, leads_grow}
-use Rattle.px_points_stay.proofs.Acts.{plain_default, grows_then, flow_ref, LandsIn, lands_plain, ActFits, act_fits, EndFits, Safe}
+use Rattle.px_points_stay.proofs.Acts.{plain_default, grows_then, LandsIn, lands_plain, ActFits, act_fits, EndFits, Safe}
 use Rattle.px_points_stay.proofs.Words.{SlotsFit, SafeDoes, word_safe, answer_safe, no_ref, held_at}
 
 module _ (Q W : Type 0) (code : Code) (code_typed : IsTyped code) (ask : Ask Q W) (kept : W → Bool) (plainly : AnswersPlainly kept ask) where

@@ -1,5 +1,5 @@
 -- What each word does is safe.
-use Rattle.std.proofs.Common.{◌≡◌, ℕ, zero, suc, Bool, true, false, ◌+◌, ◌-◌, ◌*◌, nat_le, nat_lt, ◌&&◌, List, [], ◌∷◌, ◌++◌, length, map, Option, Some, None, unwrap_or, slice_get, Result, Ok, Err, pos, negsuc, IfOk, refl, sym, ap, ◌∙◌, subst, if◌then◌else◌}
+use Rattle.std.proofs.Common.{◌≡◌, ℕ, zero, suc, nat_le, List, [], ◌∷◌, ◌++◌, length, Option, Some, None, unwrap_or, slice_get, Result, Ok, Err, IfOk, refl, sym, ap, ◌∙◌, subst}
 use Rattle.std.specs.List.{AllByRecursion}
 use Rattle.std.proofs.lemmas.Option.{same_Some}
 use Rattle.px_value.specs.declared.value.Value.{Value}
@@ -21,7 +21,7 @@ use Rattle.px_effects.specs.Cells as cells
 use Rattle.px_effects.specs.Cells.{comes, or_throws, reference, at_object, at_element, place_of, length_in, array_size, first_cells, rows_header, size_value}
 use Rattle.px_effects.specs.Rows as rows
 use Rattle.px_effects.specs.Rows.{Standing, at_standing, all_written, make_rows, changed, long_in, text_in, cell_in, is_on_row, standing, width_at}
-use Rattle.px_effects.specs.Operations.{Work, Acts, Operates, operation, operates_on, sent}
+use Rattle.px_effects.specs.Operations.{Acts, Operates, operation, operates_on, sent}
 use Rattle.px_normal.specs.declared.ty.Ty.{Ty}
 use Rattle.px_normal.specs.declared.ty.Ty.TheVariants as ty
 use Rattle.px_normal.specs.declared.word.Operand.{Operand}
@@ -35,14 +35,14 @@ use Rattle.px_normal.specs.Typed as typed
 use Rattle.px_normal.specs.Typed.{IsLiteral, HasTy, IsTyped}
 use Rattle.px_flow_points.specs.declared.part.Part.{Part}
 use Rattle.px_flow_points.specs.declared.part.Part.TheVariants.{Field, Elements}
-use Rattle.px_flow_points.specs.Statements.{IsMethod, HasStatement}
-use Rattle.px_flow_points.specs.Places.{site_kind, slot_ty}
+use Rattle.px_flow_points.specs.Statements.{HasStatement}
+use Rattle.px_flow_points.specs.Places.{slot_ty}
 use Rattle.px_flow_points.specs.Points.{InSlot, InPart, PointsTo, ReadsPart, WritesPart}
 use Rattle.px_flow_points.specs.Points as points
 use Rattle.px_flow_points.proofs.Typing.{kind_ty, same_ty, site_is, SlotIs, slot_in, Word_in, places}
 use Rattle.px_points_stay.specs.Fits.{IsNoReference, IsPlainAnswer, part_by, header_in, header_at, Leads, HeapFits}
-use Rattle.px_points_stay.proofs.Lists.{all_at, last_at, from_map}
-use Rattle.px_points_stay.proofs.Heaps.{Grows, grows_written, header_at-written}
+use Rattle.px_points_stay.proofs.Lists.{last_at, from_map}
+use Rattle.px_points_stay.proofs.Heaps.{header_at-written}
 use Rattle.px_points_stay.proofs.Acts.{flow_ref, LandsIn, lands_plain, lands_to, Safe}
 
 -- ---- values
