@@ -1,5 +1,5 @@
 -- How often a number is given in each form of an expression and of a statement, as an equation.
-use Rattle.std.proofs.Common.{◌≡◌, ℕ, ◌+◌, Bool, List, [], ◌∷◌, map, Option, Some, None, option_map, refl, sym, ap, ◌∙◌}
+use Rattle.std.proofs.Common.{◌≡◌, ℕ, ◌+◌, Bool, List, map, Some, None, sym, ap, ◌∙◌}
 use Rattle.px_tree.specs.declared.Sign.{Sign}
 use Rattle.px_tree.specs.declared.Base.{Base}
 use Rattle.px_tree.specs.declared.Name.{Name as NameData}
@@ -12,7 +12,7 @@ use Rattle.px_tree.specs.declared.Stmt.{Stmt, fold_out-Stmt}
 use Rattle.px_tree.specs.declared.StmtForm.{StmtForm, StmtForm-F, fold-StmtForm, fold-roll-StmtForm, roll-StmtForm, map-StmtForm}
 use Rattle.px_tree.specs.declared.StmtForm.TheVariants.{Block, rolls-Block, Empty, rolls-Empty, Local, rolls-Local, Assign, rolls-Assign, Compound, rolls-Compound, Up, rolls-Up, Down, rolls-Down, Call as CallStmt, rolls-Call as rolls-CallStmt, If, rolls-If, While, rolls-While, For, rolls-For, Return, rolls-Return, Print, rolls-Print}
 use Rattle.px_tree.specs.declared.StmtForm.TheOpen.{StmtForm-F as g}
-use Rattle.px_counted.specs.Numbers.{all_of, if_any, one_if, in_parts, with_own, given, in_statement_parts, with_own_statement, given_statement}
+use Rattle.px_counted.specs.Numbers.{all_of, one_if, in_parts, with_own, given, in_statement_parts, with_own_statement, given_statement}
 
 module _ (number : ℕ) where
   abbrev form_given : ExprForm → ℕ

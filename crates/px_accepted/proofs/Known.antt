@@ -1,19 +1,17 @@
 -- The facts of an accepted program know each field that it declares.
-use Rattle.std.proofs.Common.{◌≡◌, ℕ, zero, suc, ◌+◌, not, List, [], ◌∷◌, ◌++◌, length, map, fold, None, refl, sym, ap, ◌∙◌, subst, arith}
-use Rattle.std.specs.Prelude.{nat_lt}
+use Rattle.std.proofs.Common.{◌≡◌, ℕ, ◌+◌, List, [], ◌∷◌, length, map, fold, None, ap, ◌∙◌, arith}
 use Rattle.std.proofs.lemmas.List.{length-map}
 use Rattle.px_value.specs.declared.schema.Schema.{Schema}
 use Rattle.px_tree.specs.declared.Program.{Program}
 use Rattle.px_tree.specs.declared.Class.{Class}
 use Rattle.px_tree.specs.declared.Member.{Member}
 use Rattle.px_tree.specs.declared.Member.TheVariants as member
-use Rattle.px_facts.specs.declared.checked.Checked.{Checked}
 use Rattle.px_rules.specs.declared.table.Table.{Table}
 use Rattle.px_rules.specs.declared.classes.FieldType.{FieldType}
 use Rattle.px_rules.specs.declared.classes.Members.{Members}
 use Rattle.px_rules.specs.Breaches.{breach_if}
 use Rattle.px_rules.specs.Names.{empty, has_name}
-use Rattle.px_rules.specs.Members.{no_members, field_type, with_member, class_members, numbers_of, classes_of}
+use Rattle.px_rules.specs.Members.{no_members, field_type, with_member, class_members, numbers_of}
 use Rattle.px_rules.specs.Programs.{field_names, method_names, members_notes, all_members, class_names, declared_notes, notes_of, first_breach_of}
 use Rattle.px_rules.specs.Checked.{type_in, class_known, facts_of, checked_of}
 use Rattle.px_soundness.proofs.Clean.{Clean, clean_left, clean_right, not_broken, all_clean}

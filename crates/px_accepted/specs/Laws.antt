@@ -12,9 +12,14 @@ use Rattle.px_semantics.specs.Entry.{exec}
 use Rattle.px_normal.specs.Run.{untraced}
 use Rattle.px_normal.specs.CodeRun.{code_run}
 use Rattle.px_lowering.specs.Programs.{lowered}
+use Rattle.px_counted.specs.Numbers.{AreNumbered}
 
 -- Its code comes to the same value, throw or open question as it does, with the same heap, world, prints and counts: whatever the heap, the world, the way in which that answers, the method and the arguments.
 abbrev pub AcceptedKeepsMeaning : (Q W : Type 0) → Type 0
 AcceptedKeepsMeaning Q W = (bytes : List ℕ) (program : Program) (schema : Schema) → IsAccepted bytes program schema
     → (ask : Ask Q W) (heap : List Object) (world : W) (method : ℕ) (args : List Value)
     → exec ask (source_from (checked_of program schema)) heap world method args ≡ untraced (code_run (lowered (checked_of program schema)) ask heap world method args)
+
+-- Each number of its tree is given once, so that what is counted by number is counted apart.
+abbrev pub AcceptedIsNumbered : Type 0
+AcceptedIsNumbered = (bytes : List ℕ) (program : Program) (schema : Schema) → IsAccepted bytes program schema → AreNumbered (checked_of program schema)

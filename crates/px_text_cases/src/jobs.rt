@@ -1,42 +1,37 @@
 //! What of jobs no clause says.
 use itoa::Buffer;
 use px_code::Side;
-use px_facts::{Checked, Entry, Facts, Main};
+use px_facts::Checked;
+use px_grammar::parse;
 use px_job::{Job, JobCode, JobError, JobFault, first_beyond, read_job};
-use px_normal::{Class, Code, Field, Method, Node, NodeKind, Operand, Tree, Ty as SlotTy, Word};
-use px_tree::Program as Source;
-use px_value::{Column, ColumnType, Schema, Table, Text, Ty, Value};
+use px_lowering::lower;
+use px_rules::check;
+use px_sql::read_schema;
+use px_value::{Column, ColumnType, Schema, Table, Text};
 use sqlite_items::Items;
 use std::alloc::{AllocError, Global};
 use std::process::Abort;
 use std::test::Fail;
 
-// What a job is read for.
-#[derive(Drop)]
-struct Program {
-    checked: Checked,
-    code: Code,
+// What jobs are read for. Its nodes: 1 the method m, 2 a print, 3 an `if`, 4 a print, 5 and 6 of the array, 7 a return, 8 the method n,
+// 9 its return, 10 to 15 the entries, 16 and 17 the fields, 18 the site of the array.
+const SOURCE: &[u8] = b"
+class Main { boolean f; int[] g;
+private void m() {
+System.out.println(1);
+if (true) { System.out.println(2); } g = new int[1];
+return; }
+private void n() {
+return;
 }
+public void none() { return; } public void m0(long x) { return; } public void $all(int a, boolean b, String c) { return; } }
+";
+
+// The most bytes of a program, as of a file.
+const MOST: usize = 1_048_576;
 
 fn name(alloc: Global, name: &str) -> Result<Text, AllocError> {
     Ok(Text::from_vec(name.as_bytes().to_vec(alloc)?))
-}
-
-fn entry(alloc: Global, title: &str, params: &[Ty]) -> Result<Entry, AllocError> {
-    Ok(Entry {
-        name: name(alloc, title)?,
-        method: 1,
-        params: Items::from_slice(alloc, params)?,
-        gives: None,
-    })
-}
-
-fn entries(alloc: Global) -> Result<Items<Entry>, AllocError> {
-    let mut entries = Items::new(alloc);
-    entries.push(entry(alloc, "none", &[])?)?;
-    entries.push(entry(alloc, "m0", &[Ty::Long])?)?;
-    entries.push(entry(alloc, "$all", &[Ty::Int, Ty::Bool, Ty::Text])?)?;
-    Ok(entries)
 }
 
 fn table(alloc: Global, title: &str, types: &[ColumnType]) -> Result<Table, AllocError> {
@@ -53,8 +48,8 @@ fn table(alloc: Global, title: &str, types: &[ColumnType]) -> Result<Table, Allo
     })
 }
 
-// The tables k (a number), t (a text), p (a number and a text).
-fn schema(alloc: Global) -> Result<Schema, AllocError> {
+// The tables k (a number), t (a text, as no program has its key), p (a number and a text).
+fn tables(alloc: Global) -> Result<Schema, AllocError> {
     let mut tables = Items::new(alloc);
     tables.push(table(alloc, "k", &[ColumnType::Long])?)?;
     tables.push(table(alloc, "t", &[ColumnType::Text])?)?;
@@ -62,148 +57,34 @@ fn schema(alloc: Global) -> Result<Schema, AllocError> {
     Ok(Schema { tables })
 }
 
-fn checked(alloc: Global) -> Result<Checked, AllocError> {
-    Ok(Checked {
-        program: Source {
-            tables: Items::new(alloc),
-            classes: Items::new(alloc),
-            tokens: Items::new(alloc),
-        },
-        schema: schema(alloc)?,
-        facts: Facts {
-            nodes: Items::new(alloc),
-            classes: Items::new(alloc),
-            methods: Items::new(alloc),
-            operations: Items::new(alloc),
-            main: Main {
-                class: 0,
-                entries: entries(alloc)?,
-            },
-        },
-    })
-}
-
-// The fields f and g of Main, nodes 7 and 8.
-fn classes(alloc: Global) -> Result<Items<Class>, AllocError> {
-    let mut fields = Items::new(alloc);
-    for (title, node) in [("f", 7), ("g", 8)] {
-        fields.push(Field {
-            name: name(alloc, title)?,
-            ty: SlotTy::Int,
-            node,
-        })?;
-    }
-    let mut classes = Items::new(alloc);
-    classes.push(Class {
-        name: name(alloc, "Main")?,
-        fields,
-    })?;
-    Ok(classes)
-}
-
-fn print(node: u32) -> Tree {
-    Tree::Do {
-        node,
-        word: Word::Print(Operand::Literal(Value::Null)),
-    }
-}
-
-// A print, and an `if` with another.
-fn body_with_prints(alloc: Global) -> Result<Items<Tree>, AllocError> {
-    let mut yes = Items::new(alloc);
-    yes.push(print(4))?;
-    let mut body = Items::new(alloc);
-    body.push(print(2))?;
-    body.push(Tree::If {
-        node: 3,
-        test: Operand::Slot(0),
-        yes,
-        no: Items::new(alloc),
-    })?;
-    Ok(body)
-}
-
-fn body_that_returns(alloc: Global) -> Result<Items<Tree>, AllocError> {
-    let mut body = Items::new(alloc);
-    body.push(Tree::Do {
-        node: 6,
-        word: Word::Return(None),
-    })?;
-    Ok(body)
-}
-
-fn method(alloc: Global, title: &str, node: u32, body: Items<Tree>) -> Result<Method, AllocError> {
-    Ok(Method {
-        class: 0,
-        name: name(alloc, title)?,
-        node,
-        entry: false,
-        params: 0,
-        gives: None,
-        slots: Items::new(alloc),
-        body,
-    })
-}
-
-fn methods(alloc: Global) -> Result<Items<Method>, AllocError> {
-    let mut methods = Items::new(alloc);
-    methods.push(method(alloc, "m", 1, body_with_prints(alloc)?)?)?;
-    methods.push(method(alloc, "n", 5, body_that_returns(alloc)?)?)?;
-    Ok(methods)
-}
-
-// The kind of each node, its line and its method.
-const NODES: [(NodeKind, u32, Option<u16>); 9] = [
-    (NodeKind::Method, 3, Some(1)),
-    (NodeKind::Normal, 4, Some(1)),
-    (NodeKind::Normal, 5, Some(1)),
-    (NodeKind::Normal, 5, Some(1)),
-    (NodeKind::Method, 7, Some(2)),
-    (NodeKind::Normal, 8, Some(2)),
-    (NodeKind::Field, 2, None),
-    (NodeKind::Field, 2, None),
-    (NodeKind::Site, 5, Some(1)),
-];
-
-fn nodes(alloc: Global) -> Result<Items<Node>, AllocError> {
-    let mut nodes = Items::new(alloc);
-    for (kind, line, method) in NODES {
-        nodes.push(Node {
-            kind,
-            line,
-            method,
-            counter: None,
-        })?;
-    }
-    Ok(nodes)
-}
-
-fn code(alloc: Global) -> Result<Code, AllocError> {
-    Ok(Code {
-        main: 0,
-        classes: classes(alloc)?,
-        methods: methods(alloc)?,
-        sites: Items::new(alloc),
-        nodes: nodes(alloc)?,
-        schema: schema(alloc)?,
-        statements: Items::new(alloc),
-    })
-}
-
-fn small_program(alloc: Global) -> Result<Program, AllocError> {
-    Ok(Program {
-        checked: checked(alloc)?,
-        code: code(alloc)?,
-    })
-}
-
 // A test's texts are short.
-fn read(alloc: Global, text: &[u8], program: &Program) -> Result<Job, JobError> {
+fn read_over(alloc: Global, text: &[u8], checked: &Checked) -> Result<Job, JobError> {
     if text.len() >= 1 << 31 {
         return Err(JobError::NoMemory);
     }
-    let schema = &program.checked.schema;
-    read_job(alloc, text, &program.checked, schema, &program.code)
+    let code = lower(alloc, checked)?;
+    let schema = tables(alloc)?;
+    read_job(alloc, text, checked, &schema, &code)
+}
+
+fn read_for(alloc: Global, text: &[u8], source: &[u8]) -> Result<Job, JobError> {
+    if source.len() > MOST {
+        return Err(JobError::NoMemory);
+    }
+    let Ok(program) = parse(alloc, source) else {
+        return Err(JobError::NoMemory);
+    };
+    let Ok(schema) = read_schema(alloc, program.tables.as_slice()) else {
+        return Err(JobError::NoMemory);
+    };
+    match check(alloc, program, schema) {
+        Ok(checked) => read_over(alloc, text, &checked),
+        Err(_) => Err(JobError::NoMemory),
+    }
+}
+
+fn read(alloc: Global, text: &[u8]) -> Result<Job, JobError> {
+    read_for(alloc, text, SOURCE)
 }
 
 fn fault(line: u32, code: JobCode) -> Option<JobError> {
@@ -486,9 +367,8 @@ const PARTS: [(u32, JobCode, &[u8]); 57] = [
 #[test]
 fn jobs_are_read(rt: HostRuntime) -> Result<(), Fail> {
     let alloc = rt.alloc();
-    let program = small_program(alloc)?;
     for text in READ {
-        let found = read(alloc, text, &program);
+        let found = read(alloc, text);
         assert_eq!(rt; found.err(), None, "{text:?}");
     }
     Ok(())
@@ -499,9 +379,8 @@ fn all_refused(
     alloc: Global,
     cases: &[(u32, JobCode, &[u8])],
 ) -> Result<(), Fail> {
-    let program = small_program(alloc)?;
     for (line, code, text) in cases {
-        let found = read(alloc, *text, &program);
+        let found = read(alloc, *text);
         assert_eq!(rt; found.err(), fault(*line, *code), "{text:?}");
     }
     Ok(())
@@ -628,10 +507,9 @@ fn long_text(alloc: Global, case: &Long) -> Result<Vec<u8>, AllocError> {
 #[test]
 fn counts_and_lengths_have_limits(rt: HostRuntime) -> Result<(), Fail> {
     let alloc = rt.alloc();
-    let program = small_program(alloc)?;
     for case in LONG {
         let text = long_text(alloc, &case)?;
-        let found = read(alloc, text.as_slice(), &program);
+        let found = read(alloc, text.as_slice());
         let want = case
             .5
             .map(|code| JobError::Fault(JobFault { line: case.4, code }));
@@ -664,10 +542,9 @@ const ROW_COUNTS: [(u32, Option<JobError>); 2] = [
 #[test]
 fn a_job_has_at_most_100000_rows(rt: HostRuntime) -> Result<(), Fail> {
     let alloc = rt.alloc();
-    let program = small_program(alloc)?;
     for (count, want) in ROW_COUNTS {
         let text = rows(alloc, count)?;
-        let found = read(alloc, text.as_slice(), &program);
+        let found = read(alloc, text.as_slice());
         assert_eq!(rt; found.err(), want);
     }
     Ok(())
@@ -722,9 +599,8 @@ const HELD: [(&[u8], &[u64]); 4] = [
 #[test]
 fn jobs_hold_these_numbers(rt: HostRuntime) -> Result<(), Fail> {
     let alloc = rt.alloc();
-    let program = small_program(alloc)?;
     for (text, want) in HELD {
-        let job = read(alloc, text, &program)?;
+        let job = read(alloc, text)?;
         assert_eq!(rt; numbers(alloc, &job)?.as_slice(), want, "{text:?}");
     }
     Ok(())
@@ -763,38 +639,40 @@ fn parts(alloc: Global, job: &Job) -> Result<Vec<u8>, AllocError> {
 }
 
 const SPLIT: [(&[u8], &[u8]); 9] = [
-    (b"", b"app 1000 AAAAAAAAA;"),
-    (b"part p upto 1000", b"p 1000 AAAAAAAAA;"),
-    (b"part p upto 1000\ndb all", b"p 1000 DADADDDDD;"),
-    (b"part p upto 1000\ndb method Main.m", b"p 1000 DADAAAAAD;"),
+    (b"", b"app 1000 AAAAAAAAAAAAAAAAAA;"),
+    (b"part p upto 1000", b"p 1000 AAAAAAAAAAAAAAAAAA;"),
+    (b"part p upto 1000\ndb all", b"p 1000 DADADDDDDDDDDDDDDD;"),
+    (
+        b"part p upto 1000\ndb method Main.m",
+        b"p 1000 DADADDDAAAAAAAAAAD;",
+    ),
     (
         b"part p upto 1000\ndb all\napp method Main.n\napp line 5",
-        b"p 1000 DAAAAADDA;",
+        b"p 1000 DAAAAADAADDDDDDDDA;",
     ),
     (
         b"part p upto 01000 budget 1000000000000\napp line 8\ndb line 008",
-        b"p 1000 1000000000000 -A-A-D---;",
+        b"p 1000 1000000000000 -A-A----D---------;",
     ),
     (
         b"part p upto 1000 budget 0\ndb all\napp field Main.f",
-        b"p 1000 0 DADADDADD;",
+        b"p 1000 0 DADADDDDDDDDDDDADD;",
     ),
     (
         b"part a upto 0\ndb field Main.g\npart app upto 1000\ndb line 8\napp all\ndb field Main.f",
-        b"a 0 AAAAAAADA;app 1000 AAAAAADAA;",
+        b"a 0 AAAAAAAAAAAAAAAADA;app 1000 AAAAAAAAAAAAAAADAA;",
     ),
     (
         b"part a upto 1\npart b upto 2\npart c upto 3\npart d upto 4\npart e upto 5\npart f upto 6\npart g upto 7\npart h upto 1000",
-        b"a 1 AAAAAAAAA;b 2 AAAAAAAAA;c 3 AAAAAAAAA;d 4 AAAAAAAAA;e 5 AAAAAAAAA;f 6 AAAAAAAAA;g 7 AAAAAAAAA;h 1000 AAAAAAAAA;",
+        b"a 1 AAAAAAAAAAAAAAAAAA;b 2 AAAAAAAAAAAAAAAAAA;c 3 AAAAAAAAAAAAAAAAAA;d 4 AAAAAAAAAAAAAAAAAA;e 5 AAAAAAAAAAAAAAAAAA;f 6 AAAAAAAAAAAAAAAAAA;g 7 AAAAAAAAAAAAAAAAAA;h 1000 AAAAAAAAAAAAAAAAAA;",
     ),
 ];
 
 #[test]
 fn jobs_have_these_parts(rt: HostRuntime) -> Result<(), Fail> {
     let alloc = rt.alloc();
-    let program = small_program(alloc)?;
     for (text, want) in SPLIT {
-        let job = read(alloc, text, &program)?;
+        let job = read(alloc, text)?;
         assert_eq!(rt; parts(alloc, &job)?.as_slice(), want, "{text:?}");
     }
     Ok(())
