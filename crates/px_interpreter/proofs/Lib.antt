@@ -1,5 +1,6 @@
 pub mod Digits
 pub mod Rooms
+pub mod Made
 pub mod Undoes
 pub mod Sent
 pub mod Steps

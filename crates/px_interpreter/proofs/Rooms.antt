@@ -11,7 +11,8 @@ use Rattle.px_value.specs.declared.header.Kind.TheVariants as kind
 use Rattle.px_value.specs.declared.thrown.Thrown.TheVariants.{HeapFull}
 use Rattle.px_value.specs.Heap.{HasNoRoom, IsLongArray, heap_counted, max_counted, max_elements}
 use Rattle.px_value.specs.Outcome.{Outcome, Gives, Throws}
-use Rattle.px_semantics.specs.Effects.{allocate, fresh_object, has_no_room, is_long}
+use Rattle.px_effects.specs.Act.{has_no_room, is_long}
+use Rattle.px_interpreter.specs.Effects.{allocate, fresh_object}
 use Rattle.px_rows.specs.Tables.{Tables}
 use Rattle.px_interpreter.specs.View.{There}
 

@@ -3,7 +3,7 @@ use Rattle.std.proofs.Common.{◌≡◌, ◌<◌, ◌≤◌, ◌+◌, ℕ, nat_l
 use Rattle.std.specs.List.{fold, list_all}
 use Rattle.std.proofs.lemmas.Bool.Decides.{nat_tests}
 use Rattle.px_value.specs.declared.value.Value.{Value}
-use Rattle.px_semantics.specs.Operations.{is_short, text_size, max_texts}
+use Rattle.px_effects.specs.Operations.{is_short, text_size, max_texts}
 
 -- the bytes of all texts, behind so many
 abbrev pub sizes_from : ℕ → List Value → ℕ

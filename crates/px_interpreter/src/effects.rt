@@ -4,7 +4,9 @@ ghost use Rattle.std.specs.Option.{option_copied};
 ghost use Rattle.px_value.specs.declared.value.Value.TheVariants.{Null};
 ghost use Rattle.px_semantics.specs.Run.{turn as mean_turn, max_turns};
 ghost use Rattle.px_semantics.specs.Facts.{default_of as mean_default_of, element_default as mean_element_default, element_number as mean_element_number};
+ghost use Rattle.px_effects.specs.Cells as cells;
 ghost use Rattle.px_semantics.specs.Effects as effects;
+ghost use Rattle.px_interpreter.specs.Effects as parts;
 ghost use Rattle.px_interpreter.specs.View.{shared_of, Ends, Keeps, IfKept};
 
 use crate::facts::{default_of, element_default};
@@ -18,7 +20,7 @@ use std::alloc::{AllocError, Global};
 
 /// The object of a reference.
 pub fn reference(value: &Value) -> Result<u32, Thrown>
-    ensures { result ≡ effects.reference value.now }
+    ensures { result ≡ cells.reference value.now }
 {
     match value {
         Value::Ref(object) => Ok(*object),
@@ -28,7 +30,7 @@ pub fn reference(value: &Value) -> Result<u32, Thrown>
 
 // The place of an index among so many elements.
 fn place_of(index: &Value, size: usize) -> Result<u32, Thrown>
-    ensures { result ≡ effects.place_of index.now size }
+    ensures { result ≡ cells.place_of index.now size }
 {
     match index {
         Value::Int(index) => place_in(*index, size),
@@ -37,7 +39,7 @@ fn place_of(index: &Value, size: usize) -> Result<u32, Thrown>
 }
 
 fn place_in(index: i32, size: usize) -> Result<u32, Thrown>
-    ensures { result ≡ effects.place_of (Value.Int index) size }
+    ensures { result ≡ cells.place_of (Value.Int index) size }
 {
     if index < 0 {
         return Err(Thrown::ArrayIndexOutOfBoundsException);
@@ -52,7 +54,7 @@ fn place_in(index: i32, size: usize) -> Result<u32, Thrown>
 
 // How many elements an array is to have.
 fn array_size(size: &Value) -> Result<usize, Thrown>
-    ensures { result ≡ effects.array_size size.now }
+    ensures { result ≡ cells.array_size size.now }
 {
     match size {
         Value::Int(size) => int_size(*size),
@@ -61,7 +63,7 @@ fn array_size(size: &Value) -> Result<usize, Thrown>
 }
 
 fn int_size(size: i32) -> Result<usize, Thrown>
-    ensures { result ≡ effects.array_size (Value.Int size) }
+    ensures { result ≡ cells.array_size (Value.Int size) }
 {
     if size < 0 {
         Err(Thrown::NegativeArraySizeException)
@@ -125,7 +127,7 @@ pub fn copied(alloc: Global, value: Option<&Value>) -> Result<Value, AllocError>
 
 /// A number as an int.
 pub fn size_value(size: usize) -> Value
-    ensures { result ≡ effects.size_value size }
+    ensures { result ≡ cells.size_value size }
 {
     Value::Int(((size % (1 << 32)) as u32).cast_signed())
 }
@@ -147,13 +149,13 @@ impl Machine {
     }
 
     pub fn read_cell(&self, alloc: Global, object: u32, index: u32) -> Result<Value, Stop>
-        ensures { Ends (shared_of self.now) result (effects.read_cell object index (shared_of self.now)) }
+        ensures { Ends (shared_of self.now) result (parts.read_cell object index (shared_of self.now)) }
     {
         Ok(copied(alloc, self.store.heap.get(object, index))?)
     }
 
     pub fn write_cell(&mut self, object: u32, index: u32, value: Value) -> Result<(), Stop>
-        ensures ends { Ends (shared_of self.new) result (effects.write_cell object index value (shared_of self.old)) }
+        ensures ends { Ends (shared_of self.new) result (parts.write_cell object index value (shared_of self.old)) }
         ensures kept { IfKept result (Keeps self.old self.new) }
         ensures turns { self.new.turns ≡ self.old.turns }
     {
@@ -163,7 +165,7 @@ impl Machine {
 
     // How many cells an object has.
     fn size_of(&self, object: u32) -> usize
-        ensures { result ≡ effects.size_in (slice_get self.now.store.heap object) }
+        ensures { result ≡ parts.size_at self.now.store.heap object }
     {
         match at(self.store.heap.as_slice(), object as usize) {
             Some(object) => object.cells.len(),
@@ -172,7 +174,7 @@ impl Machine {
     }
 
     fn element_of(&self, object: u32, index: &Value) -> Result<u32, Stop>
-        ensures { Ends (shared_of self.now) result (effects.element_of object index.now (shared_of self.now)) }
+        ensures { Ends (shared_of self.now) result (parts.element_of object index.now (shared_of self.now)) }
     {
         Ok(place_of(index, self.size_of(object))?)
     }
@@ -219,7 +221,7 @@ impl Machine {
     }
 
     pub fn allocate(&mut self, kind: Kind, site: u16, cells: Values) -> Result<Value, Stop>
-        ensures ends { Ends (shared_of self.new) result (effects.allocate kind site cells (shared_of self.old)) }
+        ensures ends { Ends (shared_of self.new) result (parts.allocate kind site cells (shared_of self.old)) }
         ensures kept { Keeps self.old self.new }
         ensures turns { self.new.turns ≡ self.old.turns }
     {
@@ -252,7 +254,7 @@ impl Machine {
         element: Element,
         size: &Value,
     ) -> Result<Value, Stop>
-        ensures ends { Ends (shared_of self.new) result (effects.new_elements site element size.now (shared_of self.old)) }
+        ensures ends { Ends (shared_of self.new) result (effects.new_array site (Ty.Array element) size.now (shared_of self.old)) }
         ensures kept { IfKept result (Keeps self.old self.new) }
         ensures turns { self.new.turns ≡ self.old.turns }
     {

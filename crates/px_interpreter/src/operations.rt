@@ -3,7 +3,10 @@ ghost use Rattle.std.specs.Prelude.{◌≡◌};
 ghost use Rattle.std.specs.List.{list_any};
 ghost use Rattle.px_semantics.specs.Facts.{by_number};
 ghost use Rattle.px_semantics.specs.Asks.{by_tables};
+ghost use Rattle.px_effects.specs.Run as runs;
+ghost use Rattle.px_effects.specs.Operations as sends;
 ghost use Rattle.px_semantics.specs.Operations as mean;
+ghost use Rattle.px_interpreter.specs.Effects as parts;
 ghost use Rattle.px_interpreter.specs.View.{shared_of, Ends, Keeps, IfKept};
 
 use crate::effects::size_value;
@@ -17,13 +20,13 @@ use px_value::{
 use std::alloc::Global;
 
 fn is_null(value: &Value) -> bool
-    ensures { result ≡ mean.is_null value.now }
+    ensures { result ≡ sends.is_null value.now }
 {
     matches!(value, Value::Null)
 }
 
 fn has_null(values: &[Value]) -> bool
-    ensures { result ≡ list_any mean.is_null values.now }
+    ensures { result ≡ list_any sends.is_null values.now }
 {
     for value in values {
         if is_null(value) {
@@ -34,7 +37,7 @@ fn has_null(values: &[Value]) -> bool
 }
 
 fn text_size(value: &Value) -> usize
-    ensures { result ≡ mean.text_size value.now }
+    ensures { result ≡ sends.text_size value.now }
 {
     match value {
         Value::Text(bytes) => bytes.as_slice().len(),
@@ -43,7 +46,7 @@ fn text_size(value: &Value) -> usize
 }
 
 fn are_short(values: &[Value]) -> bool
-    ensures { result ≡ mean.are_short values.now }
+    ensures { result ≡ sends.are_short values.now }
 {
     let mut total: usize = 0;
     for value in values {
@@ -61,7 +64,7 @@ fn are_short(values: &[Value]) -> bool
 
 // The parameters that are sent: a null is looked for first.
 fn sent(values: Values) -> Result<Values, Thrown>
-    ensures { result ≡ mean.sent values }
+    ensures { result ≡ sends.sent values }
 {
     if has_null(values.as_slice()) {
         Err(Thrown::SQLException)
@@ -74,7 +77,7 @@ fn sent(values: Values) -> Result<Values, Thrown>
 
 // How many rows were changed.
 fn changed(answer: &Answer) -> Result<Value, Thrown>
-    ensures { result ≡ mean.changed answer.now }
+    ensures { result ≡ parts.changed answer.now }
 {
     match answer {
         Answer::Count(count) => Ok(size_value(*count as usize)),
@@ -85,7 +88,7 @@ fn changed(answer: &Answer) -> Result<Value, Thrown>
 
 impl Machine {
     fn count(&mut self) -> Result<(), Stop>
-        ensures ends { Ends (shared_of self.new) result (mean.counted (shared_of self.old)) }
+        ensures ends { Ends (shared_of self.new) result (parts.counted (shared_of self.old)) }
         ensures kept { Keeps self.old self.new }
         ensures turns { self.new.turns ≡ self.old.turns }
     {
@@ -98,7 +101,7 @@ impl Machine {
     }
 
     fn ask(&mut self, alloc: Global, operation: &TableOp) -> Result<Answer, Stop>
-        ensures ends { Ends (shared_of self.new) result (mean.asked by_tables operation.now (shared_of self.old)) }
+        ensures ends { Ends (shared_of self.new) result (runs.asked by_tables operation.now (shared_of self.old)) }
         ensures kept { IfKept result (Keeps self.old self.new) }
         ensures turns { self.new.turns ≡ self.old.turns }
     {
@@ -117,7 +120,7 @@ impl Machine {
         statement: &Statement,
         values: Values,
     ) -> Result<Answer, Stop>
-        ensures ends { Ends (shared_of self.new) result (mean.operate by_tables number statement.now values (shared_of self.old)) }
+        ensures ends { Ends (shared_of self.new) result (parts.operate by_tables number statement.now values (shared_of self.old)) }
         ensures kept { IfKept result (Keeps self.old self.new) }
         ensures turns { self.new.turns ≡ self.old.turns }
     {

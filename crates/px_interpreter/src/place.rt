@@ -1,9 +1,12 @@
 //! Result sets.
-ghost use Rattle.std.specs.Prelude.{◌≡◌, Some, pos, slice_get};
+ghost use Rattle.std.specs.Prelude.{◌≡◌, length, pos, slice_get, unwrap_or};
 ghost use Rattle.std.specs.Option.{option_copied};
-ghost use Rattle.px_semantics.specs.Facts.{by_number};
-ghost use Rattle.px_semantics.specs.Operations as mean;
-ghost use Rattle.px_interpreter.specs.Place.{told_place, Finds, row_reached, column_value};
+ghost use Rattle.px_value.specs.declared.value.Value.TheVariants.{Null};
+ghost use Rattle.px_effects.specs.Rows as mean;
+ghost use Rattle.px_semantics.specs.Effects as effects;
+ghost use Rattle.px_semantics.specs.Effects.{statements_of};
+ghost use Rattle.px_interpreter.specs.Effects.{standing_at, row_reached, column_value};
+ghost use Rattle.px_interpreter.specs.Place.{told_place, Finds};
 ghost use Rattle.px_interpreter.specs.View.{shared_of, Ends, Keeps, IfKept};
 
 use crate::effects::{reference, size_value};
@@ -40,7 +43,7 @@ fn selected(statement: &Statement) -> usize
 }
 
 fn width_in(facts: &Facts, number: u16) -> usize
-    ensures { result ≡ mean.width_in (by_number facts.now.operations number) }
+    ensures { result ≡ mean.width_in (statements_of facts.now number) }
 {
     match operation_at(facts, number) {
         Some(operation) => selected(&operation.statement),
@@ -49,7 +52,7 @@ fn width_in(facts: &Facts, number: u16) -> usize
 }
 
 fn width_of(facts: &Facts, kind: Kind) -> usize
-    ensures { result ≡ mean.width_of facts.now kind }
+    ensures { result ≡ mean.width_of (statements_of facts.now) kind }
 {
     match kind {
         Kind::Rows(number) => width_in(facts, number),
@@ -58,13 +61,13 @@ fn width_of(facts: &Facts, kind: Kind) -> usize
 }
 
 fn cursor_at(place: i32) -> u32
-    ensures { result ≡ mean.cursor_in (Some (Value.Int place)) }
+    ensures { result ≡ mean.cursor_in (Value.Int place) }
 {
     if place < 0 { 0 } else { place.cast_unsigned() }
 }
 
 fn cursor_in(value: Option<&Value>) -> u32
-    ensures { result ≡ mean.cursor_in (option_copied value.entry) }
+    ensures { result ≡ mean.cursor_in (unwrap_or (option_copied value.entry) Null) }
 {
     match value {
         Some(Value::Int(place)) => cursor_at(*place),
@@ -84,7 +87,7 @@ fn rows_among(cells: usize, width: usize) -> usize
 }
 
 fn place_of(facts: &Facts, object: &Object) -> Place
-    ensures { told_place result ≡ mean.place_in facts.now (Some object.now) }
+    ensures { told_place result ≡ mean.standing (mean.width_of (statements_of facts.now) object.now.header.kind) (length object.now.cells) (unwrap_or (slice_get object.now.cells 0) Null) }
 {
     let width = width_of(facts, object.header.kind);
     Place {
@@ -168,7 +171,7 @@ fn text_in(value: Value) -> Result<Value, Thrown>
 
 impl Machine {
     fn place_at(&self, facts: &Facts, object: u32) -> Place
-        ensures { told_place result ≡ mean.place_in facts.now (slice_get self.now.store.heap object) }
+        ensures { told_place result ≡ standing_at (statements_of facts.now) self.now.store.heap object }
     {
         match at(self.store.heap.as_slice(), object as usize) {
             Some(object) => place_of(facts, object),
@@ -181,7 +184,7 @@ impl Machine {
     }
 
     fn move_on(&mut self, facts: &Facts, object: u32) -> Result<Value, Stop>
-        ensures ends { Ends (shared_of self.new) result (row_reached facts.now object (shared_of self.old)) }
+        ensures ends { Ends (shared_of self.new) result (row_reached (statements_of facts.now) object (shared_of self.old)) }
         ensures kept { IfKept result (Keeps self.old self.new) }
         ensures turns { self.new.turns ≡ self.old.turns }
     {
@@ -194,7 +197,7 @@ impl Machine {
     /// `next()`: whether there is a row where the cursor is then.
     #[inline(never)]
     pub fn next(&mut self, facts: &Facts, of: &Value) -> Result<Value, Stop>
-        ensures ends { Ends (shared_of self.new) result (mean.next facts.now of.now (shared_of self.old)) }
+        ensures ends { Ends (shared_of self.new) result (effects.next facts.now of.now (shared_of self.old)) }
         ensures kept { IfKept result (Keeps self.old self.new) }
         ensures turns { self.new.turns ≡ self.old.turns }
     {
@@ -209,7 +212,7 @@ impl Machine {
         object: u32,
         index: &Value,
     ) -> Result<Value, Stop>
-        ensures { Ends (shared_of self.now) result (column_value facts.now index.now object (shared_of self.now)) }
+        ensures { Ends (shared_of self.now) result (column_value (statements_of facts.now) index.now object (shared_of self.now)) }
     {
         let place = self.place_at(facts, object);
         let cell = cell_in(&place, index)?;
@@ -225,7 +228,7 @@ impl Machine {
         of: &Value,
         index: &Value,
     ) -> Result<Value, Stop>
-        ensures { Ends (shared_of self.now) result (mean.get_column facts.now mean.long_in of.now index.now (shared_of self.now)) }
+        ensures { Ends (shared_of self.now) result (effects.get_long facts.now of.now index.now (shared_of self.now)) }
     {
         let object = reference(of)?;
         let value = self.column(alloc, facts, object, index)?;
@@ -241,7 +244,7 @@ impl Machine {
         of: &Value,
         index: &Value,
     ) -> Result<Value, Stop>
-        ensures { Ends (shared_of self.now) result (mean.get_column facts.now mean.text_in of.now index.now (shared_of self.now)) }
+        ensures { Ends (shared_of self.now) result (effects.get_string facts.now of.now index.now (shared_of self.now)) }
     {
         let object = reference(of)?;
         let value = self.column(alloc, facts, object, index)?;

@@ -2,7 +2,7 @@
 ghost use Rattle.std.specs.Prelude.{◌≡◌, ◌≤◌, ◌+◌, ◌&&◌, nat_lt, nat_le, ◌++◌, ◌∷◌, [], length, vec_len, OnOk, IfOk};
 ghost use Rattle.std.specs.List.{sum_by};
 ghost use Rattle.px_value.specs.Operators.{text_of as mean_text_of};
-ghost use Rattle.px_semantics.specs.Effects.{max_prints, max_printed};
+ghost use Rattle.px_effects.specs.Act.{max_prints, max_printed};
 
 use itoa::{Buffer, Integer};
 use px_value::{MAX_PRINTED, MAX_PRINTS, Text, Value};

@@ -1,7 +1,8 @@
 //! Rows as objects of the heap.
 ghost use Rattle.std.specs.Prelude.{◌≡◌, ◌∷◌, pos, IfOk};
 ghost use Rattle.px_value.specs.declared.value.Value.TheVariants.{Int};
-ghost use Rattle.px_semantics.specs.Operations as mean;
+ghost use Rattle.px_effects.specs.Rows as mean;
+ghost use Rattle.px_semantics.specs.Effects.{acts};
 ghost use Rattle.px_interpreter.specs.View.{shared_of, Ends, Keeps, IfKept};
 
 use crate::machine::Machine;
@@ -30,7 +31,7 @@ impl Machine {
         site: u16,
         answer: &Answer,
     ) -> Result<Value, Stop>
-        ensures ends { Ends (shared_of self.new) result (mean.made_rows number site answer.now (shared_of self.old)) }
+        ensures ends { Ends (shared_of self.new) result (acts (mean.make_rows number site answer.now) (shared_of self.old)) }
         ensures kept { IfKept result (Keeps self.old self.new) }
         ensures turns { self.new.turns ≡ self.old.turns }
     {

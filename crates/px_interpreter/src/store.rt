@@ -3,7 +3,7 @@ ghost use Rattle.std.specs.Prelude.{◌≡◌, ◌≤◌, ◌++◌, ◌∷◌, [
 ghost use Rattle.std.specs.Option.{option_copied};
 ghost use Rattle.px_value.specs.declared.value.Value.TheVariants.{Null};
 ghost use Rattle.px_value.specs.Heap.{HasNoRoom, cell_at, written};
-ghost use Rattle.px_semantics.specs.Effects.{fresh_object};
+ghost use Rattle.px_interpreter.specs.Effects.{fresh_object};
 ghost use Rattle.px_interpreter.specs.Undo.{noted, restored, undone};
 
 use crate::change::Change;

@@ -1,7 +1,6 @@
 -- What a line makes keeps what a job keeps.
-use Rattle.std.proofs.Common.{◌≡◌, ℕ, zero, suc, ◌+◌, ◌-◌, ◌≤◌, ◌<◌, ◌==◌, nat_lt, nat_le, Bool, true, false, not, ◌&&◌, List, [], ◌∷◌, ◌++◌, length, slice_get, slice_set, Option, Some, None, IfSome, Result, Ok, Err, IfOk, if◌then◌else◌, refl, ap, sym, ◌∙◌, append_assoc, arith}
+use Rattle.std.proofs.Common.{◌≡◌, ℕ, zero, suc, ◌+◌, ◌-◌, ◌≤◌, ◌<◌, Bool, true, false, ◌&&◌, List, [], ◌∷◌, ◌++◌, length, slice_get, slice_set, unwrap_or, Option, Some, None, IfSome, Result, Err, IfOk, if◌then◌else◌, refl, ap, sym, ◌∙◌, append_assoc, arith}
 use Rattle.std.specs.List.{AllByRecursion, list_all}
-use Rattle.std.specs.Option.{option_and_then}
 use Rattle.std.proofs.lemmas.Bool.{leb-false}
 use Rattle.std.proofs.lemmas.List.{length-set, length-append, append-nil}
 use Rattle.px_value.specs.declared.schema.Table.{Table}
@@ -12,14 +11,15 @@ use Rattle.px_job.specs.Places.{place_of}
 use Rattle.px_job.specs.Numbers.{number, within, are_digits, numbers_within}
 use Rattle.px_job.specs.Arguments.{is_digits, is_value, arguments_of}
 use Rattle.px_job.specs.Cells.{cells_of}
-use Rattle.px_job.specs.Rows.{max_rows, table_of, short_place, key_stands, row_with, row_at, row_in, row_of, judged_row}
-use Rattle.px_job.specs.Calls.{max_calls, call_with, call_at, call_to, call_by, judged_call}
-use Rattle.px_job.specs.Loads.{max_readings, full_load, max_order, loads_with, loads_by, loads_of, judged_load, order_of, judged_order}
+use Rattle.px_job.specs.Rules.{least_code, is_absent, unless}
+use Rattle.px_job.specs.Rows.{max_rows, place_named, key_stands, has_wrong_count as row_count_wrong, repeats_key, is_row_too_many, made_row, row_at, row_in, judged_row}
+use Rattle.px_job.specs.Calls.{max_calls, has_wrong_count as call_count_wrong, is_call_too_many, made_call, call_at, call_to, judged_call}
+use Rattle.px_job.specs.Loads.{max_readings, full_load, max_order, load_of, are_too_many, loads_by, judged_load, sessions_of, names_no_session, is_order_too_long, order_rules, judged_order}
 use Rattle.px_job.specs.Fitting.{HaveTypes, FitColumns, IsRowOf, HaveNewKeys, IsSession, IsCallOf, AreReadings}
 use Rattle.px_job.specs.declared.job.Row.{Row}
 use Rattle.px_job.specs.declared.job.Call.{Call}
 use Rattle.px_job.specs.declared.job.JobCode.{JobCode}
-use Rattle.px_job.specs.declared.job.JobCode.TheVariants.{J1, J3, J7, J9, J11, J18, J19, J20}
+use Rattle.px_job.specs.declared.job.JobCode.TheVariants.{J1, J3, J4, J5, J6, J7, J8, J9, J10, J11, J12, J18, J19, J20}
 use Rattle.px_job.proofs.FittingValues.{within_fits, numbers_fit, arguments_fit, cells_fit}
 
 -- ---- lists
@@ -32,7 +32,7 @@ pub all_map : {A : Type 0} (P Q : A → Type 0) (xs : List A) → ((x : A) → P
 all_map P Q [] each p = tt
 all_map P Q (x ∷ xs) each p = (each x p.0, all_map P Q xs each p.1)
 
-all_set : {A : Type 0} (P : A → Type 0) (xs : List A) (place : ℕ) (x : A) → AllByRecursion P xs → P x → AllByRecursion P (slice_set xs place x)
+pub all_set : {A : Type 0} (P : A → Type 0) (xs : List A) (place : ℕ) (x : A) → AllByRecursion P xs → P x → AllByRecursion P (slice_set xs place x)
 all_set P [] place x p q = tt
 all_set P (y ∷ xs) zero x p q = (q, p.1)
 all_set P (y ∷ xs) (suc place) x p q = (p.0, all_set P xs place x p.1 q)
@@ -55,18 +55,16 @@ IsNext tables rows row = IsRowOf tables row × (key_stands rows row.table row.va
 abbrev pub RowFits : List Table → List Row → Result Row JobCode → Type 0
 RowFits tables rows meaning = IfOk meaning (λ row. IsNext tables rows row)
 
-row_by : (tables : List Table) (rows : List Row) (place : ℕ) (table : Table) (values : List Value) (stands full : Bool) → slice_get tables place ≡ Some table → FitColumns table.columns values → key_stands rows place values ≡ stands → nat_le max_rows (length rows) ≡ full → RowFits tables rows (if stands then Err J9 else if full then Err J19 else Ok (record { table = place; values = values }))
-row_by tables rows place table values true full e p k n = tt
-row_by tables rows place table values false true e p k n = tt
-row_by tables rows place table values false false e p k n = (record { table = table; found = e; values = p }, k, leb-false max_rows (length rows) n)
+row_by : (tables : List Table) (rows : List Row) (place : ℕ) (table : Table) (values : Option (List Value)) (wrong stands full : Bool) → slice_get tables place ≡ Some table → IfSome values (λ vs. FitColumns table.columns vs) → repeats_key rows (made_row (Some place) values) ≡ stands → is_row_too_many rows ≡ full → RowFits tables rows (unless (least_code ((false, J6) ∷ (wrong, J7) ∷ (is_absent values, J8) ∷ (stands, J9) ∷ (full, J19) ∷ [])) (made_row (Some place) values))
+row_by tables rows place table values true stands full e p k n = tt
+row_by tables rows place table None false stands full e p k n = tt
+row_by tables rows place table (Some values) false true full e p k n = tt
+row_by tables rows place table (Some values) false false true e p k n = tt
+row_by tables rows place table (Some values) false false false e p k n = (record { table = table; found = e; values = p }, k, leb-false max_rows (length rows) n)
 
-row_with_fits : (tables : List Table) (rows : List Row) (place : ℕ) (table : Table) (values : Option (List Value)) → slice_get tables place ≡ Some table → IfSome values (λ vs. FitColumns table.columns vs) → RowFits tables rows (row_with rows place values)
-row_with_fits tables rows place table None e p = tt
-row_with_fits tables rows place table (Some values) e p = row_by tables rows place table values (key_stands rows place values) (nat_le max_rows (length rows)) e p refl refl
-
-row_at_fits : (tables : List Table) (rows : List Row) (words : List (List ℕ)) (place : ℕ) (table : Option Table) → slice_get tables place ≡ table → RowFits tables rows (row_at rows words place table)
+row_at_fits : (tables : List Table) (rows : List Row) (words : List (List ℕ)) (place : ℕ) (table : Option Table) → slice_get tables place ≡ table → RowFits tables rows (row_at rows words (Some place) table)
 row_at_fits tables rows words place None e = tt
-row_at_fits tables rows words place (Some table) e = elim (length words == length table.columns) as (λ b. RowFits tables rows (if b then row_with rows place (cells_of table.columns words) else Err J7)) [ true ↦ row_with_fits tables rows place table (cells_of table.columns words) e (cells_fit table.columns words) | false ↦ tt ]
+row_at_fits tables rows words place (Some table) e = row_by tables rows place table (cells_of table.columns words) (row_count_wrong (Some table) words) (repeats_key rows (made_row (Some place) (cells_of table.columns words))) (is_row_too_many rows) e (cells_fit table.columns words) refl refl
 
 row_in_fits : (tables : List Table) (rows : List Row) (words : List (List ℕ)) (place : Option ℕ) → RowFits tables rows (row_in tables rows words place)
 row_in_fits tables rows words None = tt
@@ -76,9 +74,9 @@ pub row_fits : (tables : List Table) (rows : List Row) (words : List (List ℕ))
 row_fits tables rows [] = tt
 row_fits tables rows (name ∷ []) = tt
 row_fits tables rows (name ∷ word ∷ words) =
-    elim (not (is_identifier name && list_all is_value (word ∷ words))) as (λ b. RowFits tables rows (if b then Err J1 else row_of tables rows name (word ∷ words))) [
-      | true ↦ tt
-      | false ↦ row_in_fits tables rows (word ∷ words) (option_and_then short_place (table_of name tables))
+    elim (is_identifier name && list_all is_value (word ∷ words)) as (λ b. RowFits tables rows (if b then row_in tables rows (word ∷ words) (place_named tables name) else Err J1)) [
+      | true ↦ row_in_fits tables rows (word ∷ words) (place_named tables name)
+      | false ↦ tt
     ]
 
 -- ---- calls
@@ -86,33 +84,28 @@ row_fits tables rows (name ∷ word ∷ words) =
 abbrev pub CallFits : List Entry → ℕ → ℕ → Result Call JobCode → Type 0
 CallFits entries sessions calls meaning = IfOk meaning (λ call. IsCallOf entries sessions call × (calls < max_calls))
 
-call_by_room : (entries : List Entry) (sessions calls session place : ℕ) (entry : Entry) (values : List Value) (full : Bool) → IsSession sessions session → slice_get entries place ≡ Some entry → HaveTypes entry.params values → nat_le max_calls calls ≡ full → CallFits entries sessions calls (if full then Err J18 else Ok (record { session = session; entry = place; args = values }))
-call_by_room entries sessions calls session place entry values true s e p n = tt
-call_by_room entries sessions calls session place entry values false s e p n = (record { session = s; entry = entry; found = e; arguments = p }, leb-false max_calls calls n)
+call_by : (entries : List Entry) (sessions calls session place : ℕ) (entry : Entry) (values : Option (List Value)) (wrong full : Bool) → IsSession sessions session → slice_get entries place ≡ Some entry → IfSome values (λ vs. HaveTypes entry.params vs) → is_call_too_many calls ≡ full → CallFits entries sessions calls (unless (least_code ((false, J5) ∷ (false, J10) ∷ (wrong, J11) ∷ (is_absent values, J12) ∷ (full, J18) ∷ [])) (made_call (Some session) (Some place) values))
+call_by entries sessions calls session place entry values true full s e p n = tt
+call_by entries sessions calls session place entry None false full s e p n = tt
+call_by entries sessions calls session place entry (Some values) false true s e p n = tt
+call_by entries sessions calls session place entry (Some values) false false s e p n = (record { session = s; entry = entry; found = e; arguments = p }, leb-false max_calls calls n)
 
-call_with_fits : (entries : List Entry) (sessions calls session place : ℕ) (entry : Entry) (values : Option (List Value)) → IsSession sessions session → slice_get entries place ≡ Some entry → IfSome values (λ vs. HaveTypes entry.params vs) → CallFits entries sessions calls (call_with calls session place values)
-call_with_fits entries sessions calls session place entry None s e p = tt
-call_with_fits entries sessions calls session place entry (Some values) s e p = call_by_room entries sessions calls session place entry values (nat_le max_calls calls) s e p refl
-
-call_at_fits : (entries : List Entry) (sessions calls session place : ℕ) (words : List (List ℕ)) (entry : Option Entry) → IsSession sessions session → slice_get entries place ≡ entry → CallFits entries sessions calls (call_at calls words session place entry)
+call_at_fits : (entries : List Entry) (sessions calls session place : ℕ) (words : List (List ℕ)) (entry : Option Entry) → IsSession sessions session → slice_get entries place ≡ entry → CallFits entries sessions calls (call_at calls words (Some session) (Some place) entry)
 call_at_fits entries sessions calls session place words None s e = tt
-call_at_fits entries sessions calls session place words (Some entry) s e = elim (length words == length entry.params) as (λ b. CallFits entries sessions calls (if b then call_with calls session place (arguments_of entry.params words) else Err J11)) [ true ↦ call_with_fits entries sessions calls session place entry (arguments_of entry.params words) s e (arguments_fit entry.params words) | false ↦ tt ]
+call_at_fits entries sessions calls session place words (Some entry) s e = call_by entries sessions calls session place entry (arguments_of entry.params words) (call_count_wrong (Some entry) words) (is_call_too_many calls) s e (arguments_fit entry.params words) refl
 
-call_to_fits : (entries : List Entry) (sessions calls session : ℕ) (words : List (List ℕ)) (place : Option ℕ) → IsSession sessions session → CallFits entries sessions calls (call_to entries calls words session place)
-call_to_fits entries sessions calls session words None s = tt
-call_to_fits entries sessions calls session words (Some place) s = call_at_fits entries sessions calls session place words (slice_get entries place) s refl
-
-call_by_fits : (entries : List Entry) (sessions calls : ℕ) (name : List ℕ) (words : List (List ℕ)) (session : Option ℕ) → IfSome session (λ s. IsSession sessions s) → CallFits entries sessions calls (call_by entries calls name words session)
-call_by_fits entries sessions calls name words None s = tt
-call_by_fits entries sessions calls name words (Some session) s = call_to_fits entries sessions calls session words (place_of name entries) s
+call_to_fits : (entries : List Entry) (sessions calls : ℕ) (words : List (List ℕ)) (session place : Option ℕ) → IfSome session (λ s. IsSession sessions s) → CallFits entries sessions calls (call_to entries calls words session place)
+call_to_fits entries sessions calls words None place s = tt
+call_to_fits entries sessions calls words (Some session) None s = tt
+call_to_fits entries sessions calls words (Some session) (Some place) s = call_at_fits entries sessions calls session place words (slice_get entries place) s refl
 
 pub call_fits : (entries : List Entry) (sessions calls : ℕ) (words : List (List ℕ)) → CallFits entries sessions calls (judged_call entries sessions calls words)
 call_fits entries sessions calls [] = tt
 call_fits entries sessions calls (session ∷ []) = tt
 call_fits entries sessions calls (session ∷ name ∷ words) =
-    elim (not (is_digits session && is_identifier name && list_all is_value words)) as (λ b. CallFits entries sessions calls (if b then Err J1 else call_by entries calls name words (within 1 sessions (number session)))) [
-      | true ↦ tt
-      | false ↦ call_by_fits entries sessions calls name words (within 1 sessions (number session)) (within_fits 1 sessions (number session))
+    elim (is_digits session && is_identifier name && list_all is_value words) as (λ b. CallFits entries sessions calls (if b then call_to entries calls words (within 1 sessions (number session)) (place_of name entries) else Err J1)) [
+      | true ↦ call_to_fits entries sessions calls words (within 1 sessions (number session)) (place_of name entries) (within_fits 1 sessions (number session))
+      | false ↦ tt
     ]
 
 -- ---- loads
@@ -123,31 +116,29 @@ LoadsFit loads meaning = IfOk meaning (λ new. (length new ≡ length loads) × 
 abbrev AreLoads : List ℕ → Type 0
 AreLoads readings = AllByRecursion (λ reading. reading ≤ full_load) readings
 
-loads_by_room : (loads : List (List ℕ)) (place : ℕ) (readings load : List ℕ) (full : Bool) → AllByRecursion AreReadings loads → AreLoads readings → AreReadings load → nat_lt max_readings (length load + length readings) ≡ full → LoadsFit loads (if full then Err J20 else Ok (slice_set loads place (load ++ readings)))
-loads_by_room loads place readings load true all p q n = tt
-loads_by_room loads place readings load false all p q n =
+loads_by_room : (loads : List (List ℕ)) (place : ℕ) (load readings : Option (List ℕ)) (full : Bool) → AllByRecursion AreReadings loads → IfSome load AreReadings → IfSome readings AreLoads → are_too_many load readings ≡ full → LoadsFit loads (unless (least_code ((is_absent readings, J4) ∷ (is_absent load, J5) ∷ (full, J20) ∷ [])) (slice_set loads place (unwrap_or load [] ++ unwrap_or readings [])))
+loads_by_room loads place load None full all q p n = tt
+loads_by_room loads place None (Some readings) full all q p n = tt
+loads_by_room loads place (Some load) (Some readings) true all q p n = tt
+loads_by_room loads place (Some load) (Some readings) false all q p n =
     let room : length load + length readings < max_readings + 1 = leb-false (max_readings + 1) (length load + length readings) n in
     let short : length (load ++ readings) ≤ max_readings = omega (arith, room, length-append load readings) in
     (length-set loads place (load ++ readings), all_set AreReadings loads place (load ++ readings) all (short, all_append (λ reading. reading ≤ full_load) load readings q.1 p))
 
-loads_with_fits : (loads : List (List ℕ)) (place : ℕ) (readings : List ℕ) (load : Option (List ℕ)) → AllByRecursion AreReadings loads → AreLoads readings → IfSome load AreReadings → LoadsFit loads (loads_with loads place readings load)
-loads_with_fits loads place readings None all p q = tt
-loads_with_fits loads place readings (Some load) all p q = loads_by_room loads place readings load (nat_lt max_readings (length load + length readings)) all p q refl
+load_of_fits : (loads : List (List ℕ)) (session : Option ℕ) → AllByRecursion AreReadings loads → IfSome (load_of loads session) AreReadings
+load_of_fits loads None all = tt
+load_of_fits loads (Some session) all = all_get AreReadings loads (session - 1) all
 
-loads_by_fits : (loads : List (List ℕ)) (readings : List ℕ) (session : Option ℕ) → AllByRecursion AreReadings loads → AreLoads readings → LoadsFit loads (loads_by loads readings session)
-loads_by_fits loads readings None all p = tt
-loads_by_fits loads readings (Some session) all p = loads_with_fits loads (session - 1) readings (slice_get loads (session - 1)) all p (all_get AreReadings loads (session - 1) all)
-
-loads_of_fits : (sessions : ℕ) (loads : List (List ℕ)) (session : List ℕ) (readings : Option (List ℕ)) → AllByRecursion AreReadings loads → IfSome readings (λ ms. AllByRecursion (λ m. (0 ≤ m) × (m ≤ full_load)) ms) → LoadsFit loads (loads_of sessions loads session readings)
-loads_of_fits sessions loads session None all p = tt
-loads_of_fits sessions loads session (Some readings) all p = loads_by_fits loads readings (within 1 sessions (number session)) all (all_map (λ m. (0 ≤ m) × (m ≤ full_load)) (λ m. m ≤ full_load) readings (λ _ q. q.1) p)
+are_loads : (readings : Option (List ℕ)) → IfSome readings (λ ms. AllByRecursion (λ m. (0 ≤ m) × (m ≤ full_load)) ms) → IfSome readings AreLoads
+are_loads None p = tt
+are_loads (Some readings) p = all_map (λ m. (0 ≤ m) × (m ≤ full_load)) (λ m. m ≤ full_load) readings (λ _ q. q.1) p
 
 pub loads_fit : (sessions : ℕ) (loads : List (List ℕ)) (words : List (List ℕ)) → AllByRecursion AreReadings loads → LoadsFit loads (judged_load sessions loads words)
 loads_fit sessions loads [] all = tt
 loads_fit sessions loads (session ∷ words) all =
-    elim (not (is_digits session && are_digits words)) as (λ b. LoadsFit loads (if b then Err J1 else loads_of sessions loads session (numbers_within 0 full_load words))) [
-      | true ↦ tt
-      | false ↦ loads_of_fits sessions loads session (numbers_within 0 full_load words) all (numbers_fit 0 full_load words)
+    elim (is_digits session && are_digits words) as (λ b. LoadsFit loads (if b then loads_by loads (within 1 sessions (number session)) (numbers_within 0 full_load words) else Err J1)) [
+      | true ↦ loads_by_room loads (unwrap_or (within 1 sessions (number session)) 0 - 1) (load_of loads (within 1 sessions (number session))) (numbers_within 0 full_load words) (are_too_many (load_of loads (within 1 sessions (number session))) (numbers_within 0 full_load words)) all (load_of_fits loads (within 1 sessions (number session)) all) (are_loads (numbers_within 0 full_load words) (numbers_fit 0 full_load words)) refl
+      | false ↦ tt
     ]
 
 -- ---- the order
@@ -155,19 +146,21 @@ loads_fit sessions loads (session ∷ words) all =
 abbrev pub OrderFits : ℕ → Result (List ℕ) JobCode → Type 0
 OrderFits sessions meaning = IfOk meaning (λ order. AllByRecursion (IsSession sessions) order × (length order ≤ max_order))
 
-order_by_room : (sessions : ℕ) (order : List ℕ) (full : Bool) → AllByRecursion (IsSession sessions) order → nat_lt max_order (length order) ≡ full → OrderFits sessions (if full then Err J20 else Ok order)
-order_by_room sessions order true all n = tt
-order_by_room sessions order false all n =
-    let room : length order < max_order + 1 = leb-false (max_order + 1) (length order) n in
-    (all, omega (arith, room))
+all_or_none : (P : ℕ → Type 0) (found : Option (List ℕ)) → IfSome found (λ ms. AllByRecursion P ms) → AllByRecursion P (unwrap_or found [])
+all_or_none P None all = tt
+all_or_none P (Some ms) all = all
 
-order_of_fits : (sessions : ℕ) (order : Option (List ℕ)) → IfSome order (λ ms. AllByRecursion (IsSession sessions) ms) → OrderFits sessions (order_of order)
-order_of_fits sessions None all = tt
-order_of_fits sessions (Some order) all = order_by_room sessions order (nat_lt max_order (length order)) all refl
+order_by : (sessions : ℕ) (words : List (List ℕ)) (repeated none long : Bool) → is_order_too_long sessions words ≡ long → OrderFits sessions (unless (least_code ((repeated, J3) ∷ (none, J5) ∷ (long, J20) ∷ [])) (sessions_of sessions words))
+order_by sessions words true none long n = tt
+order_by sessions words false true long n = tt
+order_by sessions words false false true n = tt
+order_by sessions words false false false n =
+    let room : length (sessions_of sessions words) < max_order + 1 = leb-false (max_order + 1) (length (sessions_of sessions words)) n in
+    (all_or_none (IsSession sessions) (numbers_within 1 sessions words) (numbers_fit 1 sessions words), omega (arith, room))
 
 pub order_fits : (sessions : ℕ) (repeated : Bool) (words : List (List ℕ)) → OrderFits sessions (judged_order sessions repeated words)
 order_fits sessions repeated words =
-    elim (not (are_digits words)) as (λ b. OrderFits sessions (if b then Err J1 else if repeated then Err J3 else order_of (numbers_within 1 sessions words))) [
-      | true ↦ tt
-      | false ↦ elim repeated as (λ b. OrderFits sessions (if b then Err J3 else order_of (numbers_within 1 sessions words))) [ true ↦ tt | false ↦ order_of_fits sessions (numbers_within 1 sessions words) (numbers_fit 1 sessions words) ]
+    elim (are_digits words) as (λ b. OrderFits sessions (if b then unless (least_code (order_rules sessions repeated words)) (sessions_of sessions words) else Err J1)) [
+      | true ↦ order_by sessions words repeated (names_no_session sessions words) (is_order_too_long sessions words) refl
+      | false ↦ tt
     ]

@@ -5,6 +5,9 @@ pub mod PlacesMore
 pub mod SpelledWords
 pub mod FiledLines
 pub mod KeysMore
+pub mod PrintsMore
+pub mod NodesMore
 pub mod FittingValues
 pub mod FittingLines
+pub mod FittingParts
 pub mod FittingJobs

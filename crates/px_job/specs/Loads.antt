@@ -1,5 +1,6 @@
 -- What lines make that begin with `load` or `order`.
-use Rattle.std.specs.Prelude.{ℕ, ◌+◌, ◌-◌, nat_lt, Bool, not, ◌&&◌, List, ◌∷◌, ◌++◌, length, slice_get, slice_set, Option, Some, None, Result, Ok, Err, if◌then◌else◌}
+use Rattle.std.specs.Prelude.{ℕ, ◌+◌, ◌-◌, nat_lt, Bool, ◌&&◌, List, [], ◌∷◌, ◌++◌, length, slice_get, slice_set, unwrap_or, Option, Some, None, Result, Err, if◌then◌else◌}
+use Rattle.px_job.specs.Rules.{Rule, least_code, is_absent, unless}
 use Rattle.px_job.specs.Numbers.{number, within, are_digits, numbers_within}
 use Rattle.px_job.specs.Arguments.{is_digits}
 use Rattle.px_job.specs.declared.job.JobCode.{JobCode}
@@ -16,31 +17,47 @@ full_load = 1000
 abbrev pub max_order : ℕ
 max_order = 10000
 
+-- ---- the rules of readings
+
+-- what a session has read so far
+abbrev pub load_of : List (List ℕ) → Option ℕ → Option (List ℕ)
+load_of loads None = None
+load_of loads (Some session) = slice_get loads (session - 1)
+
+-- a session has so many readings that there is no room for these
+abbrev pub are_too_many : Option (List ℕ) → Option (List ℕ) → Bool
+are_too_many load readings = nat_lt max_readings (length (unwrap_or load []) + length (unwrap_or readings []))
+
+abbrev pub load_rules : Option (List ℕ) → Option (List ℕ) → List Rule
+load_rules load readings = (is_absent readings, J4) ∷ (is_absent load, J5) ∷ (are_too_many load readings, J20) ∷ []
+
 -- the loads of all sessions, with more readings of the session at a place, which has some
-abbrev pub loads_with : List (List ℕ) → ℕ → List ℕ → Option (List ℕ) → Result (List (List ℕ)) JobCode
-loads_with loads place readings None = Err J5
-loads_with loads place readings (Some load) = if nat_lt max_readings (length load + length readings) then Err J20 else Ok (slice_set loads place (load ++ readings))
+abbrev pub loads_with : List (List ℕ) → ℕ → Option (List ℕ) → Option (List ℕ) → Result (List (List ℕ)) JobCode
+loads_with loads place load readings = unless (least_code (load_rules load readings)) (slice_set loads place (unwrap_or load [] ++ unwrap_or readings []))
 
-abbrev pub loads_by : List (List ℕ) → List ℕ → Option ℕ → Result (List (List ℕ)) JobCode
-loads_by loads readings None = Err J5
-loads_by loads readings (Some session) = loads_with loads (session - 1) readings (slice_get loads (session - 1))
-
-abbrev pub loads_of : ℕ → List (List ℕ) → List ℕ → Option (List ℕ) → Result (List (List ℕ)) JobCode
-loads_of sessions loads session None = Err J4
-loads_of sessions loads session (Some readings) = loads_by loads readings (within 1 sessions (number session))
+abbrev pub loads_by : List (List ℕ) → Option ℕ → Option (List ℕ) → Result (List (List ℕ)) JobCode
+loads_by loads session readings = loads_with loads (unwrap_or session 0 - 1) (load_of loads session) readings
 
 -- the words behind `load`: a session and its readings
 abbrev pub judged_load : ℕ → List (List ℕ) → List (List ℕ) → Result (List (List ℕ)) JobCode
-judged_load sessions loads (session ∷ words) = if not (is_digits session && are_digits words) then Err J1 else loads_of sessions loads session (numbers_within 0 full_load words)
+judged_load sessions loads (session ∷ words) = if is_digits session && are_digits words then loads_by loads (within 1 sessions (number session)) (numbers_within 0 full_load words) else Err J1
 judged_load sessions loads _ = Err J1
 
-abbrev pub order_of : Option (List ℕ) → Result (List ℕ) JobCode
-order_of None = Err J5
-order_of (Some order) = if nat_lt max_order (length order) then Err J20 else Ok order
+-- ---- the rules of the order
+
+-- the sessions of the order, where each is one that there is
+abbrev pub sessions_of : ℕ → List (List ℕ) → List ℕ
+sessions_of sessions words = unwrap_or (numbers_within 1 sessions words) []
+
+abbrev pub names_no_session : ℕ → List (List ℕ) → Bool
+names_no_session sessions words = is_absent (numbers_within 1 sessions words)
+
+abbrev pub is_order_too_long : ℕ → List (List ℕ) → Bool
+is_order_too_long sessions words = nat_lt max_order (length (sessions_of sessions words))
+
+abbrev pub order_rules : ℕ → Bool → List (List ℕ) → List Rule
+order_rules sessions repeated words = (repeated, J3) ∷ (names_no_session sessions words, J5) ∷ (is_order_too_long sessions words, J20) ∷ []
 
 -- the words behind `order`, behind another line of the form or not: sessions
 abbrev pub judged_order : ℕ → Bool → List (List ℕ) → Result (List ℕ) JobCode
-judged_order sessions repeated words =
-    if not (are_digits words) then Err J1 else
-    if repeated then Err J3 else
-    order_of (numbers_within 1 sessions words)
+judged_order sessions repeated words = if are_digits words then unless (least_code (order_rules sessions repeated words)) (sessions_of sessions words) else Err J1

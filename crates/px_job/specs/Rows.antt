@@ -1,5 +1,5 @@
 -- What a line makes that begins with `row`.
-use Rattle.std.specs.Prelude.{ℕ, ◌==◌, ◌^◌, nat_lt, nat_le, ℤ, Bool, false, not, ◌&&◌, List, ◌∷◌, length, position, slice_get, Option, Some, None, Result, Ok, Err, if◌then◌else◌}
+use Rattle.std.specs.Prelude.{ℕ, ◌==◌, ◌^◌, nat_lt, nat_le, ℤ, Bool, false, not, ◌&&◌, List, [], ◌∷◌, length, position, slice_get, unwrap_or, Option, Some, None, Result, Err, if◌then◌else◌}
 use Rattle.std.specs.Option.{option_and_then}
 use Rattle.std.specs.List.{list_any, list_all}
 use Rattle.std.specs.Ordering.{int_eq}
@@ -10,6 +10,7 @@ use Rattle.px_value.specs.declared.value.Value.TheVariants as values
 use Rattle.px_lex.specs.Names.{is_identifier}
 use Rattle.px_job.specs.Arguments.{is_value}
 use Rattle.px_job.specs.Cells.{cells_of}
+use Rattle.px_job.specs.Rules.{Rule, least_code, is_absent, unless}
 use Rattle.px_job.specs.declared.job.Row.{Row}
 use Rattle.px_job.specs.declared.job.JobCode.{JobCode}
 use Rattle.px_job.specs.declared.job.JobCode.TheVariants.{J1, J6, J7, J8, J9, J19}
@@ -48,23 +49,53 @@ key_stands rows table (values.Long number ∷ _) = number_stands rows table numb
 key_stands rows table (values.Text text ∷ _) = text_stands rows table text
 key_stands rows table _ = false
 
--- the row of these values, behind other rows
-abbrev pub row_with : List Row → ℕ → Option (List Value) → Result Row JobCode
-row_with rows place None = Err J8
-row_with rows place (Some values) = if key_stands rows place values then Err J9 else if nat_le max_rows (length rows) then Err J19 else Ok (record { table = place; values = values })
+-- ---- the rules of a row
 
-abbrev pub row_at : List Row → List (List ℕ) → ℕ → Option Table → Result Row JobCode
-row_at rows words place None = Err J6
-row_at rows words place (Some table) = if length words == length table.columns then row_with rows place (cells_of table.columns words) else Err J7
+-- the place of the table of a name
+abbrev pub place_named : List Table → List ℕ → Option ℕ
+place_named tables name = option_and_then short_place (table_of name tables)
+
+-- the words aren't as many as the columns
+abbrev pub has_wrong_count : Option Table → List (List ℕ) → Bool
+has_wrong_count None words = false
+has_wrong_count (Some table) words = not (length words == length table.columns)
+
+-- the values of the columns that the words stand for
+abbrev pub values_for : Option Table → List (List ℕ) → Option (List Value)
+values_for None words = None
+values_for (Some table) words = cells_of table.columns words
+
+-- a row before is of the same table and has the same key
+abbrev pub repeats_key : List Row → Row → Bool
+repeats_key rows row = key_stands rows row.table row.values
+
+-- so many stand before that there is no room for one more
+abbrev pub is_row_too_many : List Row → Bool
+is_row_too_many rows = nat_le max_rows (length rows)
+
+abbrev pub row_rules : List Row → List (List ℕ) → Option Table → Option (List Value) → Row → List Rule
+row_rules rows words table values row =
+    (is_absent table, J6)
+    ∷ (has_wrong_count table words, J7)
+    ∷ (is_absent values, J8)
+    ∷ (repeats_key rows row, J9)
+    ∷ (is_row_too_many rows, J19)
+    ∷ []
+
+-- the row of the table at a place and of these values, where there are both
+abbrev pub made_row : Option ℕ → Option (List Value) → Row
+made_row place values = record { table = unwrap_or place 0; values = unwrap_or values [] }
+
+abbrev pub row_with : List Row → List (List ℕ) → Option ℕ → Option Table → Option (List Value) → Result Row JobCode
+row_with rows words place table values = unless (least_code (row_rules rows words table values (made_row place values))) (made_row place values)
+
+abbrev pub row_at : List Row → List (List ℕ) → Option ℕ → Option Table → Result Row JobCode
+row_at rows words place table = row_with rows words place table (values_for table words)
 
 abbrev pub row_in : List Table → List Row → List (List ℕ) → Option ℕ → Result Row JobCode
-row_in tables rows words None = Err J6
-row_in tables rows words (Some place) = row_at rows words place (slice_get tables place)
-
-abbrev pub row_of : List Table → List Row → List ℕ → List (List ℕ) → Result Row JobCode
-row_of tables rows name words = row_in tables rows words (option_and_then short_place (table_of name tables))
+row_in tables rows words place = row_at rows words place (option_and_then (slice_get tables) place)
 
 -- the words behind `row`: a table and its values
 abbrev pub judged_row : List Table → List Row → List (List ℕ) → Result Row JobCode
-judged_row tables rows (name ∷ word ∷ words) = if not (is_identifier name && list_all is_value (word ∷ words)) then Err J1 else row_of tables rows name (word ∷ words)
+judged_row tables rows (name ∷ word ∷ words) = if is_identifier name && list_all is_value (word ∷ words) then row_in tables rows (word ∷ words) (place_named tables name) else Err J1
 judged_row tables rows _ = Err J1

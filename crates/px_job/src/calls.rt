@@ -1,6 +1,6 @@
 //! Lines that begin with `call`.
 
-ghost use Rattle.std.specs.Prelude.{◌≡◌, ◌≤◌, ◌<◌, ◌==◌, length, slice_get};
+ghost use Rattle.std.specs.Prelude.{◌≡◌, ◌≤◌, ◌<◌, ◌==◌, length, slice_get, Some};
 ghost use Rattle.px_job.specs.Words.{words_of};
 ghost use Rattle.px_job.specs.Places.{place_of};
 ghost use Rattle.px_job.specs.Calls.{call_to, call_at, judged_call};
@@ -61,7 +61,7 @@ fn make_call(
     line: &[u8],
 ) -> Result<Call, Refusal>
     requires { count ≡ length (words_of line.now) }
-    ensures { Judges result (call_at calls (words_of line.now) session place (slice_get entries.now.list.now place)) }
+    ensures { Judges result (call_at calls (words_of line.now) (Some session) (Some place) (slice_get entries.now.list.now place)) }
 {
     let Some(entry) = at(entries.list, place) else {
         return Err(Refusal::Breaks(JobCode::J10));

@@ -4,7 +4,8 @@ ghost use Rattle.std.specs.Prelude.{◌≡◌};
 ghost use Rattle.px_job.specs.declared.job.JobError.TheVariants.{NoMemory};
 
 use crate::settings::Settings;
-use px_value::Values;
+use px_code::Pins;
+use px_value::{Text, Values};
 use sqlite_items::Items;
 use std::alloc::AllocError;
 use thiserror::Error;
@@ -29,12 +30,26 @@ pub struct Call {
     pub args: Values,
 }
 
+/// How a program is split under some loads.
+#[derive(Drop)]
+pub struct Part {
+    pub name: Text,
+    /// The highest average load, per mille, under which it serves.
+    pub upto: u16,
+    /// Under how great a load at DB the chooser places what the file doesn't.
+    pub budget: Option<u64>,
+    /// What the file places, by the number of the node from 1; each node where there is no budget.
+    pub sides: Pins,
+}
+
 /// What a file tells.
 #[derive(Drop)]
 pub struct Job {
     pub settings: Settings,
     /// In the order of the file.
     pub rows: Items<Row>,
+    /// In the order of the file, which is that of their loads; at least one.
+    pub parts: Items<Part>,
     /// In the order of the file.
     pub calls: Items<Call>,
     /// For each session the loads, per mille, that it reads one after the other.
@@ -46,11 +61,11 @@ pub struct Job {
 /// The rule that a line breaks.
 #[derive(Clone, Copy, Debug, PartialEq, Eq)]
 pub enum JobCode {
-    /// The line has a form that isn't built yet.
+    /// Its command doesn't take the line yet.
     Later,
-    /// It has none of the forms.
+    /// The line has none of the forms.
     J1,
-    /// It repeats a setting, or `order`.
+    /// It repeats a setting, `order`, or a part's name.
     J3,
     /// It has a number outside its range.
     J4,
@@ -70,11 +85,21 @@ pub enum JobCode {
     J11,
     /// It has an argument of a wrong type, out of its type's range, or too long.
     J12,
+    /// It sets sides before the first part.
+    J13,
+    /// It names an unknown class, method or field, or a line that has no statement and no site.
+    J14,
+    /// It places a print at DB.
+    J15,
+    /// It is a part that doesn't serve up to more than the part before.
+    J16,
+    /// It is the last part, and doesn't serve up to the full load.
+    J17,
     /// It is one call too many.
     J18,
     /// It is one row too many.
     J19,
-    /// It has one entry of the order or one reading of a session too many.
+    /// It is one part too many, or has one entry of the order or one reading of a session too many.
     J20,
 }
 

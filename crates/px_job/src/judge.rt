@@ -1,19 +1,22 @@
 //! What one line makes.
 
-ghost use Rattle.std.specs.Prelude.{◌≡◌, ◌==◌, nat_le, slice_index, length};
+ghost use Rattle.std.specs.Prelude.{◌≡◌, ◌==◌, nat_le, slice_index, length, not, ◌&&◌};
 ghost use Rattle.std.specs.List.{list_any};
 ghost use Rattle.px_job.specs.declared.judge.Refusal.TheVariants.{NoMemory};
 ghost use Rattle.px_job.specs.Words.{words_of};
-ghost use Rattle.px_job.specs.Judging.{judged_setting, judged_form, judged_words, judged, has_high_byte, noted_by, noted_words, noted, IsOnly, Judges, Makes};
+ghost use Rattle.px_job.specs.Judging.{judged_setting, judged_form, judged_words, judged, has_high_byte, noted_by, noted_words, noted, is_part_line, IsOnly, Judges, Makes};
+ghost use Rattle.px_job.specs.Against.{against};
 ghost use Rattle.px_job.specs.Verbs.{verb_of, setting_of};
 
 use crate::arguments::is_digits;
 use crate::calls::judge_call;
 use crate::draft::Draft;
 use crate::entries::Entries;
+use crate::index::Index;
 use crate::job::JobCode;
 use crate::loads::{judge_load, judge_order};
 use crate::numbers::read_number;
+use crate::parts::{is_part, judge_part, judge_side};
 use crate::rows::judge_row;
 use crate::settings::{Setting, Stood};
 use crate::verbs::{Verb, setting_of, verb_of};
@@ -41,7 +44,10 @@ impl From<AllocError> for Refusal {
 pub(crate) struct Known<'a> {
     pub(crate) entries: Entries<'a>,
     pub(crate) tables: &'a [Table],
+    pub(crate) index: Index<'a>,
+    /// What the whole file tells.
     pub(crate) sessions: u16,
+    pub(crate) parts: usize,
 }
 
 /// Judges a line behind those that made the draft, and adds what it makes.
@@ -51,7 +57,7 @@ pub(crate) fn judge(
     draft: &mut Draft,
     line: &[u8],
 ) -> Result<(), Refusal>
-    ensures { Makes result draft.new (judged known.now.entries.list.now known.now.tables.now known.now.sessions draft.old line.now) }
+    ensures { Makes result draft.new (judged (against known.now) draft.old line.now) }
 {
     if has_high_byte(line) {
         return Err(Refusal::Breaks(JobCode::J1));
@@ -73,7 +79,7 @@ fn judge_form(
     verb: &[u8],
     rest: &[u8],
 ) -> Result<(), Refusal>
-    ensures { Makes result draft.new (judged_form known.now.entries.list.now known.now.tables.now known.now.sessions draft.old (verb_of verb.now) (words_of rest.now)) }
+    ensures { Makes result draft.new (judged_form (against known.now) draft.old (verb_of verb.now) (words_of rest.now)) }
 {
     match verb_of(verb) {
         None => Err(Refusal::Breaks(JobCode::J1)),
@@ -86,6 +92,8 @@ fn judge_form(
             draft.rows.push(alloc, row)?;
             Ok(())
         }
+        Some(Verb::Part) => judge_part(alloc, &known.index, known.parts, &mut draft.parts, rest),
+        Some(Verb::Side(side)) => judge_side(&known.index, &mut draft.parts, side, rest),
         Some(Verb::Call) => {
             let calls = draft.calls.len();
             let call = judge_call(alloc, &known.entries, known.sessions, calls, rest)?;
@@ -158,6 +166,22 @@ fn note_words(stood: Stood, verb: &[u8], rest: &[u8]) -> Stood
         }
         _ => stood,
     }
+}
+
+/// Whether the line has the form of a part.
+pub(crate) fn is_part_line(line: &[u8]) -> bool
+    ensures { result ≡ (not (has_high_byte line.now) && is_part_line (words_of line.now)) }
+{
+    if has_high_byte(line) {
+        return false;
+    }
+    let Some((verb, rest)) = split_word(line) else {
+        return false;
+    };
+    if begins_comment(verb) {
+        return false;
+    }
+    matches!(verb_of(verb), Some(Verb::Part)) && is_part(rest)
 }
 
 // Whether a byte of the line is 128 or above.

@@ -15,7 +15,9 @@ pub fn words_are_spelled()
 {}
 
 /// A job keeps its limits: settings in their ranges, rows of tables that there are, with values of
-/// their columns and no key twice, calls and loads of sessions and entries that there are.
+/// their columns and no key twice, calls and loads of sessions and entries that there are. Each part
+/// serves up to more than the one before, the last up to the full load; it has a side for each node
+/// where it has no budget, and prints at APP.
 pub fn jobs_fit()
     ensures { JobsFit }
 {}

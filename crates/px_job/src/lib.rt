@@ -1,28 +1,36 @@
-//! Job files: the settings of a run, the rows of its tables, and the calls, loads and order of its sessions.
+//! Job files: the settings of a run, the rows of its tables, the parts that split its program, and the
+//! calls, loads and order of its sessions.
 #![tactic(auto)]
 
 mod arguments;
+mod beyond;
 mod calls;
 mod cells;
 mod draft;
 mod entries;
+mod groups;
+mod index;
 mod job;
 mod judge;
 mod keys;
 mod laws;
 mod lines;
 mod loads;
+mod names;
 mod numbers;
+mod parts;
 mod places;
+mod prints;
 mod read;
-mod reserved;
 mod rows;
 mod settings;
 mod texts;
+mod titles;
 mod verbs;
 mod words;
 
-pub use job::{Call, Job, JobCode, JobError, JobFault, Row};
+pub use beyond::first_beyond;
+pub use job::{Call, Job, JobCode, JobError, JobFault, Part, Row};
 pub use laws::{jobs_fit, lines_are_filed, words_are_spelled};
 pub use read::read_job;
 pub use settings::Settings;

@@ -100,7 +100,7 @@ pub(crate) fn judge_load(
 }
 
 fn add_readings(loads: &mut Loads, place: usize, readings: Items<u16>) -> Result<(), Refusal>
-    ensures { Makes result loads.new (loads_with loads.old place readings (slice_get loads.old place)) }
+    ensures { Makes result loads.new (loads_with loads.old place (slice_get loads.old place) (Some readings)) }
 {
     let Some(count) = loads.count(place) else {
         return Err(Refusal::Breaks(JobCode::J5));

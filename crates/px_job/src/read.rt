@@ -2,77 +2,81 @@
 
 ghost use Rattle.std.specs.Prelude.{◌≡◌, ◌≤◌, ◌<◌, ◌^◌, length, [], IfOk};
 ghost use Rattle.px_job.specs.Lines.{lines_of};
-ghost use Rattle.px_job.specs.Words.{words_of, first};
+ghost use Rattle.px_job.specs.Against.{against};
+ghost use Rattle.px_job.specs.Judging.{parts_in};
 ghost use Rattle.px_job.specs.Settings.{nothing_stood, settings_of};
-ghost use Rattle.px_job.specs.Jobs.{later_from, noted_from, drafted_from, nothing_yet, job_under, job_with, job_of, Gives};
+ghost use Rattle.px_job.specs.Jobs.{noted_from, drafted_from, nothing_yet, job_under, job_with, job_from, job_of, Gives};
 
 use crate::draft::Draft;
 use crate::entries::Entries;
-use crate::job::{Job, JobCode, JobError, JobFault};
-use crate::judge::{Known, Refusal, judge, note};
+use crate::groups::{Groups, Key, keys_but_prints};
+use crate::index::Index;
+use crate::job::{Job, JobError, JobFault};
+use crate::judge::{Known, Refusal, is_part_line, judge, note};
 use crate::keys::Rows;
 use crate::lines::split_line;
 use crate::loads::Loads;
-use crate::reserved::is_part_word;
+use crate::parts::Parts;
+use crate::prints::Prints;
 use crate::settings::{Settings, Stood};
-use crate::words::split_word;
-use px_facts::Entry;
-use px_value::Schema;
+use crate::titles::{titles_of_fields, titles_of_methods};
+use px_facts::{Checked, Entry};
+use px_normal::Code;
+use px_value::{Schema, Table};
 use sqlite_items::Items;
 use std::alloc::{AllocError, Global};
 
-/// The job of a file, for the entries and the tables of a program, or the first line that breaks a
-/// rule and its smallest code.
+/// The job of a file, for a program, its tables and its code, or the first line that breaks a rule
+/// and its smallest code.
+///
+/// Beside the lengths of the file and the code, it takes as long as side lines select nodes.
 #[tactic(auto, unfolding(crate::specs::Jobs::job_of))]
 pub fn read_job(
     alloc: Global,
     bytes: &[u8],
-    entries: &[Entry],
+    checked: &Checked,
     schema: &Schema,
+    code: &Code,
 ) -> Result<Job, JobError>
     requires { length bytes.now < 2 ^ 31 }
-    ensures { Gives result (job_of entries.now schema.now bytes.now) }
+    ensures { Gives result (job_of checked.now schema.now code.now bytes.now) }
 {
-    if let Some(line) = first_later(bytes) {
-        let code = JobCode::Later;
-        return Err(JobError::Fault(JobFault { line, code }));
-    }
+    let prints = Prints::new(alloc, code)?;
+    let nodes = code.nodes.as_slice();
+    let owners = Groups::new(alloc, keys_but_prints(alloc, Key::Method, &prints, nodes)?)?;
+    let methods = titles_of_methods(
+        alloc,
+        code.classes.as_slice(),
+        &owners,
+        code.methods.as_slice(),
+    )?;
+    let fields = titles_of_fields(alloc, code.classes.as_slice())?;
+    let index = Index::new(alloc, code, prints, methods.as_slice(), fields.as_slice())?;
+    let entries = checked.facts.main.entries.as_slice();
+    read_with(alloc, bytes, entries, schema.tables.as_slice(), index)
+}
+
+// The job of a file, for what is known of a program.
+fn read_with<'a>(
+    alloc: Global,
+    bytes: &[u8],
+    entries: &'a [Entry],
+    tables: &'a [Table],
+    index: Index<'a>,
+) -> Result<Job, JobError>
+    requires { length bytes.now < 2 ^ 31 }
+    ensures { Gives result (job_from entries.now tables.now index.entry.code.now (lines_of bytes.now)) }
+{
     let settings = read_settings(bytes);
     let known = Known {
         entries: Entries::new(alloc, entries)?,
-        tables: schema.tables.as_slice(),
+        tables,
+        index,
         sessions: settings.sessions,
+        parts: count_parts(bytes),
     };
     let draft = read_draft(alloc, bytes, &known)?;
-    Ok(finish(alloc, settings, draft))
-}
-
-// The first line of a form that isn't built yet.
-fn first_later(bytes: &[u8]) -> Option<u32>
-    requires { length bytes.now < 2 ^ 31 }
-    ensures { result ≡ later_from 1 (lines_of bytes.now) }
-{
-    let mut number = 1;
-    let mut rest = bytes;
-    while !rest.is_empty() {
-        let (line, more) = split_line(rest);
-        if is_part_word(first_word(line)) {
-            return Some(number);
-        }
-        number += 1;
-        rest = more;
-    }
-    None
-}
-
-// The first word of the line, empty where there is none.
-fn first_word(line: &[u8]) -> &[u8]
-    ensures { result.now ≡ first (words_of line.now) }
-{
-    match split_word(line) {
-        Some((word, _)) => word,
-        None => &[],
-    }
+    Ok(finish(alloc, &known.index, settings, draft)?)
 }
 
 // The settings, which hold for the whole file.
@@ -89,10 +93,26 @@ fn read_settings(bytes: &[u8]) -> Settings
     stood.settings()
 }
 
+// How many parts the file has.
+fn count_parts(bytes: &[u8]) -> usize
+    ensures { result ≡ parts_in (lines_of bytes.now) }
+{
+    let mut count = 0;
+    let mut rest = bytes;
+    while !rest.is_empty() {
+        let (line, more) = split_line(rest);
+        if is_part_line(line) {
+            count += 1;
+        }
+        rest = more;
+    }
+    count
+}
+
 // What all lines make.
 fn read_draft(alloc: Global, bytes: &[u8], known: &Known<'_>) -> Result<Draft, JobError>
     requires { length bytes.now < 2 ^ 31 }
-    ensures { Gives result (drafted_from known.now.entries.list.now known.now.tables.now known.now.sessions 1 (nothing_yet known.now.sessions) (lines_of bytes.now)) }
+    ensures { Gives result (drafted_from (against known.now) 1 (nothing_yet known.now.sessions) (lines_of bytes.now)) }
 {
     let mut draft = new_draft(alloc, known.sessions)?;
     let mut number = 1;
@@ -119,30 +139,38 @@ fn new_draft(alloc: Global, sessions: u16) -> Result<Draft, AllocError>
     Ok(Draft {
         stood: Stood::new(),
         rows: Rows::new(alloc),
+        parts: Parts::new(alloc),
         calls: Items::new(alloc),
         loads: Loads::new(alloc, sessions)?,
         order: None,
     })
 }
 
-fn finish(alloc: Global, settings: Settings, draft: Draft) -> Job
-    ensures { result ≡ job_with settings draft }
+fn finish(
+    alloc: Global,
+    index: &Index<'_>,
+    settings: Settings,
+    draft: Draft,
+) -> Result<Job, AllocError>
+    ensures { IfOk result (λ job. job ≡ job_with index.now.code.now settings draft) }
 {
     let Draft {
         stood: _,
         rows,
+        parts,
         calls,
         loads,
         order,
     } = draft;
-    Job {
+    Ok(Job {
         settings,
         rows: rows.into_items(),
+        parts: parts.finish(alloc, index)?,
         calls,
         loads: loads.into_items(),
         order: match order {
             Some(order) => order,
             None => Items::new(alloc),
         },
-    }
+    })
 }

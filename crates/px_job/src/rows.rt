@@ -1,9 +1,8 @@
 //! Lines that begin with `row`.
 
 ghost use Rattle.std.specs.Prelude.{◌≡◌, ◌≤◌, ◌<◌, ◌==◌, length, slice_get};
-ghost use Rattle.std.specs.Option.{option_and_then};
 ghost use Rattle.px_job.specs.Words.{words_of};
-ghost use Rattle.px_job.specs.Rows.{table_of, short_place, row_of, row_at, judged_row};
+ghost use Rattle.px_job.specs.Rows.{table_of, short_place, place_named, row_in, judged_row};
 ghost use Rattle.px_job.specs.Judging.{Judges};
 
 use crate::arguments::count_values;
@@ -51,7 +50,7 @@ fn make_row(
     line: &[u8],
 ) -> Result<Row, Refusal>
     requires { count ≡ length (words_of line.now) }
-    ensures { Judges result (row_of tables.now rows.now name.now (words_of line.now)) }
+    ensures { Judges result (row_in tables.now rows.now (words_of line.now) (place_named tables.now name.now)) }
 {
     let Some(place) = find_table(tables, name) else {
         return Err(Refusal::Breaks(JobCode::J6));
@@ -78,7 +77,7 @@ fn make_row(
 }
 
 fn find_table(tables: &[Table], name: &[u8]) -> Option<u16>
-    ensures { result ≡ option_and_then short_place (table_of name.now tables.now) }
+    ensures { result ≡ place_named tables.now name.now }
 {
     let place = table_place(tables, name)?;
     if place < 1 << 16 {

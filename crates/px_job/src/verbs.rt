@@ -4,12 +4,15 @@ ghost use Rattle.std.specs.Prelude.{◌≡◌};
 ghost use Rattle.px_job.specs.Verbs.{verb_of, setting_of};
 
 use crate::settings::Setting;
+use px_code::Side;
 
 /// What the first word of a line says that it is.
 #[derive(Clone, Copy)]
 pub(crate) enum Verb {
     Set(Setting),
     Row,
+    Part,
+    Side(Side),
     Call,
     Load,
     Order,
@@ -20,6 +23,12 @@ pub(crate) fn verb_of(word: &[u8]) -> Option<Verb>
 {
     if word == b"row".as_slice() {
         Some(Verb::Row)
+    } else if word == b"part".as_slice() {
+        Some(Verb::Part)
+    } else if word == b"app".as_slice() {
+        Some(Verb::Side(Side::App))
+    } else if word == b"db".as_slice() {
+        Some(Verb::Side(Side::Db))
     } else if word == b"call".as_slice() {
         Some(Verb::Call)
     } else if word == b"load".as_slice() {

@@ -21,6 +21,7 @@ use Rattle.px_job.specs.declared.job.Job.{Job}
 use Rattle.px_job.specs.declared.job.JobFault.{JobFault}
 use Rattle.px_split_job.specs.declared.job.SplitJob.{SplitJob}
 use Rattle.px_job.specs.Jobs.{job_of}
+use Rattle.px_lowering.specs.Programs.{lowered as whole_lowered}
 use Rattle.px_split_job.specs.SplitJobs.{split_job_of}
 use Rattle.px_lower.specs.Programs.{lowered}
 use Rattle.px_main.specs.declared.command.Kind.{Kind}
@@ -98,7 +99,7 @@ split_once c (Err f) a b h k = h ∙ sym k
 split_once c (Ok job) a b h k = λ i. ((h.0 ∙ sym k.0) i, one_report c job a.1 b.1 h.1 k.1 i)
 
 run_once : (c : WholeChecked) (job : List ℕ) (a b : Answer) → answers_run c job a → answers_run c job b → a ≡ b
-run_once c job a b h k = calls_once c (job_of c.facts.main.entries c.schema job) a b h k
+run_once c job a b h k = calls_once c (job_of c c.schema (whole_lowered c) job) a b h k
 
 solo_once : (c : Checked) (job : List ℕ) (a b : Answer) → answers_solo c job a → answers_solo c job b → a ≡ b
 solo_once c job a b h k = split_once c (split_job_of c.entries (lowered c) job) a b h k
@@ -132,7 +133,7 @@ split_not_five c (Err f) a h five = let e = ap (λ (x : Answer). x.0) h in absur
 split_not_five c (Ok job) a h five = let e = h.0 in absurd (omega arith)
 
 run_not_five : (c : WholeChecked) (job : List ℕ) (a : Answer) → answers_run c job a → a.0 ≡ 5 → ⊥
-run_not_five c job a h five = calls_not_five c (job_of c.facts.main.entries c.schema job) a h five
+run_not_five c job a h five = calls_not_five c (job_of c c.schema (whole_lowered c) job) a h five
 
 solo_not_five : (c : Checked) (job : List ℕ) (a : Answer) → answers_solo c job a → a.0 ≡ 5 → ⊥
 solo_not_five c job a h five = split_not_five c (split_job_of c.entries (lowered c) job) a h five
@@ -199,7 +200,7 @@ split_status c (Err f) a h = ap (λ (x : Answer). x.0) h
 split_status c (Ok job) a h = h.0
 
 run_status : (c : WholeChecked) (job : List ℕ) (a : Answer) → answers_run c job a → a.0 ≡ status_run c job
-run_status c job a h = calls_status c (job_of c.facts.main.entries c.schema job) a h
+run_status c job a h = calls_status c (job_of c c.schema (whole_lowered c) job) a h
 
 solo_status : (c : Checked) (job : List ℕ) (a : Answer) → answers_solo c job a → a.0 ≡ status_solo c job
 solo_status c job a h = split_status c (split_job_of c.entries (lowered c) job) a h
@@ -209,7 +210,7 @@ read_no_five (Err f) h = absurd (omega (arith, h))
 read_no_five (Ok x) h = absurd (omega (arith, h))
 
 run_no_five : (c : WholeChecked) (job : List ℕ) → status_run c job ≡ 5 → ⊥
-run_no_five c job h = read_no_five (job_of c.facts.main.entries c.schema job) h
+run_no_five c job h = read_no_five (job_of c c.schema (whole_lowered c) job) h
 
 solo_no_five : (c : Checked) (job : List ℕ) → status_solo c job ≡ 5 → ⊥
 solo_no_five c job h = read_no_five (split_job_of c.entries (lowered c) job) h

@@ -8,6 +8,7 @@ use Rattle.px_facts.specs.declared.checked.Checked.{Checked as WholeChecked}
 use Rattle.px_types.specs.declared.program.Known.{Known}
 use Rattle.px_types.specs.Programs.{judged}
 use Rattle.px_lower.specs.Programs.{lowered}
+use Rattle.px_lowering.specs.Programs.{lowered as whole_lowered}
 use Rattle.px_job.specs.declared.job.Job.{Job}
 use Rattle.px_job.specs.declared.job.JobFault.{JobFault}
 use Rattle.px_job.specs.declared.job.JobCode.{JobCode}
@@ -98,6 +99,11 @@ job_code code.J9 = codes "J9"
 job_code code.J10 = codes "J10"
 job_code code.J11 = codes "J11"
 job_code code.J12 = codes "J12"
+job_code code.J13 = codes "J13"
+job_code code.J14 = codes "J14"
+job_code code.J15 = codes "J15"
+job_code code.J16 = codes "J16"
+job_code code.J17 = codes "J17"
 job_code code.J18 = codes "J18"
 job_code code.J19 = codes "J19"
 job_code code.J20 = codes "J20"
@@ -143,7 +149,7 @@ abbrev pub Answering : Type 0 → Type 1
 Answering C = C → List ℕ → Answer → Type 0
 
 abbrev pub answers_run : Answering WholeChecked
-answers_run c job a = AnswersCalls c (job_of c.facts.main.entries c.schema job) a
+answers_run c job a = AnswersCalls c (job_of c c.schema (whole_lowered c) job) a
 
 abbrev pub answers_solo : Answering Checked
 answers_solo c job a = AnswersSplit c (split_job_of c.entries (lowered c) job) a
@@ -194,7 +200,7 @@ status_read (Err f) = 6
 status_read (Ok job) = 0
 
 abbrev pub status_run : WholeChecked → List ℕ → ℕ
-status_run c job = status_read (job_of c.facts.main.entries c.schema job)
+status_run c job = status_read (job_of c c.schema (whole_lowered c) job)
 
 abbrev pub status_solo : Checked → List ℕ → ℕ
 status_solo c job = status_read (split_job_of c.entries (lowered c) job)

@@ -14,6 +14,7 @@ use crate::whole::judge_whole;
 use px_facts::Checked as WholeChecked;
 use px_job::{JobCode, JobError, JobFault, read_job};
 use px_lower::lower;
+use px_lowering::lower as lower_whole;
 use px_report::refusal_text;
 use px_split_job::{
     JobCode as SplitCode, JobError as SplitError, JobFault as SplitFault, read_split_job,
@@ -55,6 +56,11 @@ fn job_code(code: JobCode) -> &'static [u8]
         JobCode::J10 => b"J10",
         JobCode::J11 => b"J11",
         JobCode::J12 => b"J12",
+        JobCode::J13 => b"J13",
+        JobCode::J14 => b"J14",
+        JobCode::J15 => b"J15",
+        JobCode::J16 => b"J16",
+        JobCode::J17 => b"J17",
         JobCode::J18 => b"J18",
         JobCode::J19 => b"J19",
         JobCode::J20 => b"J20",
@@ -111,8 +117,8 @@ fn answer_run(alloc: Global, checked: &WholeChecked, bytes: &[u8]) -> Result<Pre
     requires { length bytes.now ≤ max_job }
     ensures { IfOk result (λ a. answers_run checked.now bytes.now (a.status, a.text.items)) }
 {
-    let entries = checked.facts.main.entries.as_slice();
-    match read_job(alloc, bytes, entries, &checked.schema) {
+    let code = lower_whole(alloc, checked)?;
+    match read_job(alloc, bytes, checked, &checked.schema, &code) {
         Ok(job) => {
             let text = run(alloc, checked, &job)?;
             Ok(Prepared { status: 0, text })

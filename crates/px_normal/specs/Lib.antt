@@ -1,0 +1,5 @@
+pub mod First
+pub mod Words
+pub mod Run
+pub mod CodeRun
+pub mod Typed

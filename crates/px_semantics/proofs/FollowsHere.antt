@@ -25,13 +25,13 @@ use Rattle.px_facts.specs.declared.checked.Facts.{Facts}
 use Rattle.px_semantics.specs.Run.{Shared, Frame, Here, There, came_to, turn}
 use Rattle.px_semantics.specs.Facts.{type_at, named_at, by_number, fields_of, params_of, op_of, prefix_of}
 use Rattle.px_semantics.specs.Effects.{reference}
-use Rattle.px_semantics.specs.Operations.{Ask, long_in, text_in}
+use Rattle.px_semantics.specs.Operations.{Ask}
 use Rattle.px_semantics.specs.Asks.{by_list}
 use Rattle.px_semantics.specs.Expressions.{Calls, Around, Meant, no_place, widened, fit, literal, slot_value, assign_slot, name_value, put_name, member_value, put_member, fitted, receiver, value_at, call_method, invoke, is_operation, called, made_object, made_array, prefixed, decides, combined, binary, is_true, expr_step, meant}
 use Rattle.px_semantics.specs.Statements.{Does, goes, write_local, change_local, one, all_turns, loop, or_goes, returned, stmt_step, done_by}
 use Rattle.px_semantics.specs.Laws.{with_world}
 use Rattle.px_semantics.proofs.Follows.{View, Follows, Alike, reaches_now, pure_alike, throw_alike, bind, came_alike, AllAlike, gather_alike, goes_on_alike, in_order_alike, carried, carried_open}
-use Rattle.px_semantics.proofs.FollowsThere.{NeverThrows, shared_view, AlikeThere, turn_alike, print_alike, get_alike, put_alike, array_length_alike, load_alike, store_alike, object_alike, array_alike, next_alike, column_alike, query_alike, update_alike, then_there, came_there}
+use Rattle.px_semantics.proofs.FollowsThere.{NeverThrows, shared_view, AlikeThere, turn_alike, print_alike, get_alike, put_alike, array_length_alike, load_alike, store_alike, object_alike, array_alike, next_alike, long_alike, string_alike, query_alike, update_alike, then_there, came_there}
 use Rattle.px_semantics.proofs.Folds.{Both, Later, lefts, rights, exprs_meet, left_parts, right_parts, stmts_meet}
 
 abbrev pub frame_view : (W : Type 0) → View W
@@ -227,8 +227,8 @@ module _ (Q W : Type 0) (ask : Ask Q W) where
     invoke_alike (named.Query number site) values = shared_alike (query_alike Q W ask never number site (by_number F.operations number) values)
     invoke_alike (named.Update number) values = shared_alike (update_alike Q W ask never number (by_number F.operations number) values)
     invoke_alike named.Next values = shared_alike (next_alike Q W ask F (value_at values 0))
-    invoke_alike named.GetLong values = shared_alike (column_alike Q W ask F long_in (value_at values 0) (value_at values 1))
-    invoke_alike named.GetString values = shared_alike (column_alike Q W ask F text_in (value_at values 0) (value_at values 1))
+    invoke_alike named.GetLong values = shared_alike (long_alike Q W ask F (value_at values 0) (value_at values 1))
+    invoke_alike named.GetString values = shared_alike (string_alike Q W ask F (value_at values 0) (value_at values 1))
     invoke_alike named.Nothing values = pure_here Value Null
     invoke_alike (named.Local slot) values = pure_here Value Null
     invoke_alike (named.Field class place) values = pure_here Value Null

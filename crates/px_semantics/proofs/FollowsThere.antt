@@ -1,27 +1,27 @@
 -- What effects and operations do, beside what they do on a list.
-use Rattle.std.proofs.Common.{◌≡◌, ℕ, ◌+◌, ◌≤◌, nat_lt, nat_le, Bool, true, false, ◌&&◌, if◌then◌else◌, List, [], ◌∷◌, length, map, replicate, pos, Option, Some, None, Result, refl, arith}
+use Rattle.std.proofs.Common.{◌≡◌, ℕ, ◌+◌, ◌≤◌, nat_lt, Bool, true, false, if◌then◌else◌, List, [], ◌∷◌, Option, Result, Ok, Err, refl, arith}
 use Rattle.std.proofs.lemmas.Bool.{ltb-true}
-use Rattle.std.specs.List.{sum_by}
 use Rattle.px_value.specs.declared.value.Value.{Value}
-use Rattle.px_value.specs.declared.value.Value.TheVariants.{Int, Null, Bool as Truth}
-use Rattle.px_value.specs.declared.header.Kind.{Kind}
-use Rattle.px_value.specs.declared.header.Kind.TheVariants as kind
+use Rattle.px_value.specs.declared.value.Value.TheVariants.{Null}
 use Rattle.px_value.specs.declared.thrown.Thrown.{Thrown}
-use Rattle.px_value.specs.declared.thrown.Thrown.TheVariants.{OpsOut}
 use Rattle.px_value.specs.declared.statement.TableOp.{TableOp}
 use Rattle.px_value.specs.declared.answer.Answer.{Answer}
-use Rattle.px_value.specs.declared.answer.Answer.TheVariants.{Rows, Count, Refused}
-use Rattle.px_value.specs.Operators.{text_of}
+use Rattle.px_value.specs.Operators.{Applied}
 use Rattle.px_value.specs.Outcome.{Outcome, Gives, Throws, Asks, then_run, ◌>>=◌, pure}
 use Rattle.px_facts.specs.declared.operation.Operation.{Operation}
 use Rattle.px_facts.specs.declared.types.Ty.{Ty}
 use Rattle.px_facts.specs.declared.types.Ty.TheVariants as ty
-use Rattle.px_facts.specs.declared.types.Element.{Element}
 use Rattle.px_facts.specs.declared.checked.Facts.{Facts}
+use Rattle.px_effects.specs.Run.{in_world}
+use Rattle.px_effects.specs.Act.{Act, Firsts, Acted, acted, Landed, landed, left, ended, does}
+use Rattle.px_effects.specs.Cells as cells
+use Rattle.px_effects.specs.Cells.{first_cells}
+use Rattle.px_effects.specs.Rows as rows
+use Rattle.px_effects.specs.Operations.{Work, Acts, Operates, operation, Said, Answers, Out, counted, told, with_said, works}
 use Rattle.px_semantics.specs.Run.{Shared, There, came_to, turn, max_turns}
-use Rattle.px_semantics.specs.Facts.{default_of, element_default, element_number}
-use Rattle.px_semantics.specs.Effects.{read_cell, write_cell, reference, get_field, put_field, size_of, size_value, array_length, place_of, element_of, load, store, allocate, has_no_room, new_object, array_size, new_elements, new_array, print_line, max_prints, max_printed}
-use Rattle.px_semantics.specs.Operations.{Ask, sent, counted, max_operations, asked, operation_with, operate, made_rows, changed, query, update, Place, place_at, moved, next, cell_in, get_column, in_world}
+use Rattle.px_semantics.specs.Facts.{element_number}
+use Rattle.px_semantics.specs.Effects.{fresh_with, no_object, statement_in, statements_of, acts, only_acts, get_field, put_field, array_length, load, store, new_object, new_array, next, get_long, get_string, print_line}
+use Rattle.px_semantics.specs.Operations.{Ask, max_operations, query, update}
 use Rattle.px_semantics.specs.Asks.{by_list}
 use Rattle.px_semantics.specs.Laws.{with_world}
 use Rattle.px_semantics.proofs.Follows.{View, Follows, Alike, reaches_now, pure_alike, bind, came_alike, Reaches}
@@ -64,47 +64,47 @@ module _ (Q W : Type 0) (ask : Ask Q W) where
   pub turn_alike : AlikeThere (Unit {0}) turn turn
   turn_alike = record { at = λ s. choose (Unit {0}) (nat_lt s.turns max_turns) _ _ s _ _ (quiet (Unit {0}) s.world s.operations _ _ (λ more. refl)) (quiet (Unit {0}) s.world s.operations _ _ (λ more. refl)) }
 
-  read_alike : (object index : ℕ) → AlikeThere Value (read_cell object index) (read_cell object index)
-  read_alike object index = record { at = λ s. quiet Value s.world s.operations _ _ (λ more. refl) }
+  -- ---- acts
 
-  write_alike : (object index : ℕ) (v : Value) → AlikeThere (Unit {0}) (write_cell object index v) (write_cell object index v)
-  write_alike object index v = record { at = λ s. quiet (Unit {0}) s.world s.operations _ _ (λ more. refl) }
+  -- an act touches the heap and the prints alone
+  ended_alike : (s : Shared W) (a : Acted) (l : Landed) (v : Applied) → OutcomeThere Value (ended v (left s a l)) s (λ x. ended v (left (with_world s x) a l))
+  ended_alike s a l (Ok v) = quiet Value s.world s.operations _ _ (λ more. refl)
+  ended_alike s a l (Err t) = quiet Value s.world s.operations _ _ (λ more. refl)
 
-  size_alike : (object : ℕ) → AlikeThere ℕ (size_of object) (size_of object)
-  size_alike object = record { at = λ s. quiet ℕ s.world s.operations _ _ (λ more. refl) }
+  pub does_alike : (firsts : Firsts) (act : Act) → AlikeThere Value (does firsts act) (does firsts act)
+  does_alike firsts act = record { at = λ s. let a = acted firsts act s.heap in let l = landed s.prints a.ends in ended_alike s a l l.value }
 
-  allocate_alike : (k : Kind) (site : ℕ) (cells : List Value) → AlikeThere Value (allocate k site cells) (allocate k site cells)
-  allocate_alike k site cells = record { at = λ s. choose Value (has_no_room k (length cells) s.heap) _ _ s _ _ (quiet Value s.world s.operations _ _ (λ more. refl)) (quiet Value s.world s.operations _ _ (λ more. refl)) }
+  acts_alike : (act : Act) → AlikeThere Value (acts act) (acts act)
+  acts_alike act = does_alike (first_cells no_object) act
+
+  only_alike : (act : Act) → AlikeThere (Unit {0}) (only_acts act) (only_acts act)
+  only_alike act = then_there (acts_alike act) (λ v. pure_there (Unit {0}) tt)
+
+  -- ---- effects
 
   pub print_alike : (v : Value) → AlikeThere (Unit {0}) (print_line v) (print_line v)
-  print_alike v = record { at = λ s. choose (Unit {0}) (nat_lt (length s.prints) max_prints && nat_le (sum_by length s.prints + length (text_of v)) max_printed) _ _ s _ _ (quiet (Unit {0}) s.world s.operations _ _ (λ more. refl)) (quiet (Unit {0}) s.world s.operations _ _ (λ more. refl)) }
+  print_alike v = only_alike (cells.print_line v)
 
   pub get_alike : (v : Value) (place : ℕ) → AlikeThere Value (get_field v place) (get_field v place)
-  get_alike v place = then_there (came_there (reference v)) (λ object. read_alike object place)
+  get_alike v place = acts_alike (cells.get_field v place)
 
   pub put_alike : (o : Value) (place : ℕ) (v : Value) → AlikeThere (Unit {0}) (put_field o place v) (put_field o place v)
-  put_alike o place v = then_there (came_there (reference o)) (λ object. write_alike object place v)
+  put_alike o place v = only_alike (cells.put_field o place v)
 
   pub array_length_alike : (v : Value) → AlikeThere Value (array_length v) (array_length v)
-  array_length_alike v = then_there (came_there (reference v)) (λ object. then_there (size_alike object) (λ n. pure_there Value (size_value n)))
-
-  element_alike : (object : ℕ) (index : Value) → AlikeThere ℕ (element_of object index) (element_of object index)
-  element_alike object index = then_there (size_alike object) (λ n. came_there (place_of index n))
+  array_length_alike v = acts_alike (cells.array_length v)
 
   pub load_alike : (v index : Value) → AlikeThere Value (load v index) (load v index)
-  load_alike v index = then_there (came_there (reference v)) (λ object. then_there (element_alike object index) (read_alike object))
+  load_alike v index = acts_alike (cells.load v index)
 
   pub store_alike : (o index v : Value) → AlikeThere (Unit {0}) (store o index v) (store o index v)
-  store_alike o index v = then_there (came_there (reference o)) (λ object. then_there (element_alike object index) (λ place. write_alike object place v))
+  store_alike o index v = only_alike (cells.store o index v)
 
   pub object_alike : (class site : ℕ) (fields : List Ty) → AlikeThere Value (new_object class site fields) (new_object class site fields)
-  object_alike class site fields = allocate_alike (kind.Object class) site (map default_of fields)
-
-  elements_alike : (site : ℕ) (element : Element) (size : Value) → AlikeThere Value (new_elements site element size) (new_elements site element size)
-  elements_alike site element size = then_there (came_there (array_size size)) (λ n. allocate_alike (kind.Array (element_number element)) site (replicate n (element_default element)))
+  object_alike class site fields = does_alike (first_cells (fresh_with fields)) (cells.make_object (fresh_with fields) class site)
 
   pub array_alike : (site : ℕ) (t : Ty) (size : Value) → AlikeThere Value (new_array site t size) (new_array site t size)
-  array_alike site (ty.Array element) size = elements_alike site element size
+  array_alike site (ty.Array element) size = acts_alike (cells.make_array (element_number element) site size)
   array_alike site ty.Unknown size = pure_there Value Null
   array_alike site ty.Void size = pure_there Value Null
   array_alike site ty.Null size = pure_there Value Null
@@ -115,16 +115,14 @@ module _ (Q W : Type 0) (ask : Ask Q W) where
   array_alike site (ty.Object class) size = pure_there Value Null
   array_alike site ty.ResultSet size = pure_there Value Null
 
-  -- ---- result sets
-
-  place_alike : (F : Facts) (object : ℕ) → AlikeThere Place (place_at F object) (place_at F object)
-  place_alike F object = record { at = λ s. quiet Place s.world s.operations _ _ (λ more. refl) }
-
   pub next_alike : (F : Facts) (v : Value) → AlikeThere Value (next F v) (next F v)
-  next_alike F v = then_there (came_there (reference v)) (λ object. then_there (place_alike F object) (λ p. then_there (write_alike object 0 (size_value (moved p))) (λ x. pure_there Value (Truth (nat_le (moved p) p.rows)))))
+  next_alike F v = acts_alike (rows.next (statements_of F) v)
 
-  pub column_alike : (F : Facts) (wanted : Value → Result Value Thrown) (v index : Value) → AlikeThere Value (get_column F wanted v index) (get_column F wanted v index)
-  column_alike F wanted v index = then_there (came_there (reference v)) (λ object. then_there (then_there (place_alike F object) (λ p. then_there (came_there (cell_in p index)) (read_alike object))) (λ x. came_there (wanted x)))
+  pub long_alike : (F : Facts) (v index : Value) → AlikeThere Value (get_long F v index) (get_long F v index)
+  long_alike F v index = acts_alike (rows.get_column (statements_of F) rows.long_in v index)
+
+  pub string_alike : (F : Facts) (v index : Value) → AlikeThere Value (get_string F v index) (get_string F v index)
+  string_alike F v index = acts_alike (rows.get_column (statements_of F) rows.text_in v index)
 
   -- ---- operations
 
@@ -132,16 +130,16 @@ module _ (Q W : Type 0) (ask : Ask Q W) where
     one_more : (n : ℕ) → nat_lt n max_operations ≡ true → n + 1 ≤ 100
     one_more n h = let l = ltb-true n 100 h in omega (arith, l)
 
-    abbrev so_many : Shared W → Shared W
-    so_many s = record s { operations = s.operations + 1 }
+    abbrev answers : {R V : Type 0} → Answer → There R V Said
+    answers a = pure (Answers a)
 
     told_one : (s : Shared W) (o : TableOp) (b : Outcome Q W Answer) → ask o s.world ≡ b → nat_lt s.operations max_operations ≡ true
-        → OutcomeThere Answer (in_world (so_many s) b) s (λ x. in_world (with_world (so_many s) x) (by_list o x))
+        → OutcomeThere Said (then_run (in_world (counted s) b) answers) s (λ x. then_run (in_world (with_world (counted s) x) (by_list o x)) answers)
     told_one s o (Gives a w) e l = record {
       operations = o ∷ [];
       answers = a ∷ [];
       told = (w, e, refl);
-      asked = ((with_world (so_many s) [], refl), tt);
+      asked = ((with_world (counted s) [], refl), tt);
       reached = λ more. refl;
       counted = omega (arith);
       few = λ k. one_more s.operations l;
@@ -160,26 +158,20 @@ module _ (Q W : Type 0) (ask : Ask Q W) where
       few = λ k. one_more s.operations l;
     }
 
-    counted_one : (s : Shared W) (o : TableOp) (b : Bool) → nat_lt s.operations max_operations ≡ b
-        → OutcomeThere Answer (then_run (if b then Gives (tt {0}) (so_many s) else Throws OpsOut s) (λ u. asked ask o)) s (λ x. then_run (if b then Gives (tt {0}) (with_world (so_many s) x) else Throws OpsOut (with_world s x)) (λ u. asked by_list o))
-    counted_one s o true e = told_one s o (ask o s.world) refl e
-    counted_one s o false e = quiet Answer s.world s.operations _ _ (λ more. refl)
+    told_or_out : (s : Shared W) (o : TableOp) (b : Bool) → nat_lt s.operations max_operations ≡ b
+        → OutcomeThere Said (if b then then_run (in_world (counted s) (ask o s.world)) answers else Gives Out s) s (λ x. if b then then_run (in_world (with_world (counted s) x) (by_list o x)) answers else Gives Out (with_world s x))
+    told_or_out s o true e = told_one s o (ask o s.world) refl e
+    told_or_out s o false e = quiet Said s.world s.operations _ _ (λ more. refl)
 
-    asked_alike : (o : TableOp) → AlikeThere Answer (counted >>= (λ u. asked ask o)) (counted >>= (λ u. asked by_list o))
-    asked_alike o = record { at = λ s. counted_one s o (nat_lt s.operations max_operations) refl }
+    told_alike : (o : TableOp) → AlikeThere Said (told ask o) (told by_list o)
+    told_alike o = record { at = λ s. told_or_out s o (nat_lt s.operations max_operations) refl }
 
-    operate_alike : (number : ℕ) (x : Operation) (values : List Value) → AlikeThere Answer (operate ask number x.statement values) (operate by_list number x.statement values)
-    operate_alike number x values = then_there (came_there (sent values)) (λ params. asked_alike (operation_with number x.statement params))
-
-    rows_alike : (number site : ℕ) (a : Answer) → AlikeThere Value (made_rows number site a) (made_rows number site a)
-    rows_alike number site (Rows width cells) = allocate_alike (kind.Rows number) site (Int (pos 0) ∷ cells)
-    rows_alike number site (Count n) = pure_there Value Null
-    rows_alike number site Refused = pure_there Value Null
+    pub works_alike : (firsts : Firsts) (w : Work) (f : Answer → Act) → AlikeThere Value (works firsts ask w f) (works firsts by_list w f)
+    works_alike firsts (Acts act) f = does_alike firsts act
+    works_alike firsts (Operates o) f = then_there (told_alike o) (λ said. does_alike firsts (with_said f said))
 
     pub query_alike : (number site : ℕ) (o : Option Operation) (values : List Value) → AlikeThere Value (query ask number site o values) (query by_list number site o values)
-    query_alike number site None values = pure_there Value Null
-    query_alike number site (Some x) values = then_there (operate_alike number x values) (rows_alike number site)
+    query_alike number site o values = works_alike (first_cells no_object) (operation number (statement_in o) values) (rows.make_rows number site)
 
     pub update_alike : (number : ℕ) (o : Option Operation) (values : List Value) → AlikeThere Value (update ask number o values) (update by_list number o values)
-    update_alike number None values = pure_there Value Null
-    update_alike number (Some x) values = then_there (operate_alike number x values) (λ a. came_there (changed a))
+    update_alike number o values = works_alike (first_cells no_object) (operation number (statement_in o) values) rows.changed

@@ -1,38 +1,47 @@
 -- What effects and operations do keeps a heap typed.
-use Rattle.std.proofs.Common.{◌≡◌, ℕ, suc, ◌+◌, ◌<◌, nat_lt, nat_le, Bool, true, false, ◌&&◌, ◌||◌, if◌then◌else◌, List, [], ◌∷◌, ◌++◌, length, map, replicate, pos, negsuc, Option, Some, unwrap_or, slice_get, slice_set, Result, Ok, Err, refl, sym, ap, ◌∙◌, subst}
+use Rattle.std.proofs.Common.{◌≡◌, ℕ, suc, ◌+◌, ◌<◌, nat_lt, Bool, true, false, ◌||◌, if◌then◌else◌, List, [], ◌∷◌, ◌++◌, length, replicate, pos, negsuc, Option, Some, option_map, unwrap_or, slice_get, slice_set, Result, Ok, Err, refl, sym, ap, ◌∙◌, subst, arith}
 use Rattle.std.proofs.lemmas.Bool.{ltb-true, true≢false}
-use Rattle.std.specs.List.{list_any, sum_by}
+use Rattle.std.specs.List.{list_any}
 use Rattle.px_value.specs.declared.value.Value.{Value}
 use Rattle.px_value.specs.declared.value.Value.TheVariants.{Int, Long, Bool as Truth, Text, Null, Ref}
 use Rattle.px_value.specs.declared.object.Object.{Object}
-use Rattle.px_value.specs.declared.header.Kind.{Kind}
 use Rattle.px_value.specs.declared.header.Kind.TheVariants as kind
 use Rattle.px_value.specs.declared.thrown.Thrown.{Thrown}
-use Rattle.px_value.specs.declared.thrown.Thrown.TheVariants.{HeapFull, TurnsOut, PrintsOut, OpsOut, SQLException, TextTooLong}
+use Rattle.px_value.specs.declared.thrown.Thrown.TheVariants.{HeapFull, TurnsOut, SQLException, TextTooLong}
 use Rattle.px_value.specs.declared.statement.Statement.{Statement}
 use Rattle.px_value.specs.declared.statement.TableOp.{TableOp}
 use Rattle.px_value.specs.declared.answer.Answer.{Answer}
 use Rattle.px_value.specs.declared.answer.Answer.TheVariants.{Rows, Count, Refused}
-use Rattle.px_value.specs.Heap.{cell_of, cell_at}
-use Rattle.px_value.specs.Operators.{text_of}
+use Rattle.px_value.specs.Heap.{cell_of, written}
+use Rattle.px_value.specs.Operators.{Applied}
 use Rattle.px_value.specs.Outcome.{Outcome, Gives, Throws, Asks, then_run, ◌>>=◌, pure}
 use Rattle.px_facts.specs.declared.operation.Operation.{Operation}
 use Rattle.px_facts.specs.declared.types.Ty.{Ty}
 use Rattle.px_facts.specs.declared.types.Ty.TheVariants as ty
 use Rattle.px_facts.specs.declared.types.Element.{Element}
+use Rattle.px_facts.specs.declared.types.Element.TheVariants as element
 use Rattle.px_facts.specs.declared.checked.Facts.{Facts}
 use Rattle.px_facts.specs.Types.{element_type}
+use Rattle.px_effects.specs.Run.{in_world}
+use Rattle.px_effects.specs.Act as effect
+use Rattle.px_effects.specs.Act.{Act, Comes, Prints, Reads, Writes, Looks, Makes, Firsts, Ends, Came, Printed, Acted, acted, header_at, value_at, has_no_room, quiet, unless_full, may_print, printed_if, landed, came, settled, does}
+use Rattle.px_effects.specs.Cells as cells
+use Rattle.px_effects.specs.Cells.{first_cells, or_throws, at_object, length_in, size_value, place_of, array_size}
+use Rattle.px_effects.specs.Rows as rows
+use Rattle.px_effects.specs.Rows.{Standing, standing, width_at, moved, cell_in, long_in, text_in, make_rows, changed}
+use Rattle.px_effects.specs.Operations.{is_null, are_short, sent, operation_with, operates_on, Said, Answers, Out, counted, told, with_said, works, max_operations}
+use Rattle.px_effects.proofs.Made.{rows_object, rows_are_made}
 use Rattle.px_semantics.specs.Run.{Shared, There, came_to, turn, max_turns}
-use Rattle.px_semantics.specs.Facts.{by_number, fields_of, default_of, element_default, element_number}
-use Rattle.px_semantics.specs.Effects.{read_cell, write_cell, reference, get_field, put_field, size_in, size_of, size_value, array_length, place_of, element_of, load, store, allocate, fresh_object, has_no_room, new_object, array_size, new_elements, print_line, max_prints, max_printed}
-use Rattle.px_semantics.specs.Operations.{Ask, is_null, are_short, sent, counted, max_operations, asked, operation_with, operate, made_rows, changed, query, update, Place, place_at, moved, move_on, next, cell_in, long_in, text_in, column_of, get_column, in_world}
+use Rattle.px_semantics.specs.Facts.{by_number, fields_of, element_default, element_number}
+use Rattle.px_semantics.specs.Effects.{reference, fresh_with, no_object, statements_of, acts, only_acts, get_field, put_field, array_length, load, store, new_object, new_array, next, get_long, get_string, print_line}
+use Rattle.px_semantics.specs.Operations.{Ask, query, update}
 use Rattle.px_semantics.specs.Typed as typed
 use Rattle.px_semantics.specs.Typing as typing
 use Rattle.px_semantics.specs.Typed.{kind_at, MayBeNull, HasType, HaveTypes, AllHaveType, IsKept, AllKept, AreRows, numbered_element, HasCells, IsTypedHeap}
 use Rattle.px_semantics.specs.Typing.{IsSendable, AreSendable, is_select}
 use Rattle.px_semantics.specs.TypedRuns.{IsAnswerTo, IsAsked, AnswersTyped}
-use Rattle.px_semantics.proofs.TypedHeaps.{Grows, stays, keeps_type, cells_keep, typed_at, types_written, all_at, all_written, defaults_typed, element_default_typed, numbered_is, all_replicated, kind_of_new, grows_by_one, typed_with_one, KeepsCells, grows_written, typed_written, cells_there, keeps_cells}
-use Rattle.px_semantics.proofs.TypedRuns.{Kept, Ended, Keeps, gives, throws, comes, and_then}
+use Rattle.px_semantics.proofs.TypedHeaps.{Grows, stays, grows_then, keeps_type, typed_at, types_written, all_at, all_written, defaults_typed, element_default_typed, numbered_is, all_replicated, kind_of_new, grows_by_one, typed_with_one, KeepsCells, grows_written, typed_written, cells_there, keeps_cells}
+use Rattle.px_semantics.proofs.TypedRuns.{Kept, Ended, Keeps, comes, and_then}
 
 abbrev pub U : Type 0
 U = Unit {0}
@@ -60,52 +69,105 @@ module _ (Q W : Type 0) (F : Facts) (I : W → Type 0) where
   pub then_there : {A B : Type 0} (P : List Object → A → Type 0) (R : List Object → B → Type 0) (heap : List Object) (r : There Q W A) (f : A → There Q W B) → KeepsThere heap A r P → ((later : List Object) → Grows heap later → (a : A) → P later a → KeepsThere later B (f a) R) → KeepsThere heap B (r >>= f) R
   then_there P R heap r f h k = and_then Q K P R heap r f h k
 
-  -- the same state but for its counts and its prints
-  unless : (A : Type 0) (P : List Object → A → Type 0) (heap : List Object) (b : Bool) (o : Outcome Q (Shared W) A) (t : Thrown) (s : Shared W) → EndedThere A P heap o → EndedThere A P heap (if b then o else Throws t s)
-  unless A P heap true o t s h = h
-  unless A P heap false o t s h = tt
-
   pub turn_kept : (heap : List Object) → KeepsThere heap U turn (Anything U)
-  turn_kept heap = record { at = λ s g k. unless U (Anything U) s.heap (nat_lt s.turns max_turns) (Gives tt (record s { turns = s.turns + 1 })) TurnsOut s (stays s.heap, k, tt) }
+  turn_kept heap = record { at = λ s g k. unless s (nat_lt s.turns max_turns) (stays s.heap, k, tt) }
+    where
+      unless : (s : Shared W) (b : Bool) → EndedThere U (Anything U) s.heap (Gives tt (record s { turns = s.turns + 1 })) → EndedThere U (Anything U) s.heap (if b then Gives tt (record s { turns = s.turns + 1 }) else Throws TurnsOut s)
+      unless s true h = h
+      unless s false h = tt
+
+  -- ---- acts on a typed heap
+
+  -- each write and each new object keeps the heap typed, and this holds of the value
+  abbrev pub Safe : Firsts → (List Object → Value → Type 0) → Act → List Object → Type 0
+  Safe firsts P (Comes (Ok v)) h = P h v
+  Safe firsts P (Comes (Err t)) h = U
+  Safe firsts P (Prints line) h = P h Null
+  Safe firsts P (Reads o i k) h = Safe firsts P (k (value_at h o i)) h
+  Safe firsts P (Writes o i v k) h = KeepsCells F h o i v × Safe firsts P k (written h o i v)
+  Safe firsts P (Looks o k) h = Safe firsts P (k (header_at h o)) h
+  Safe firsts P (Makes x k) h = HasCells F h x.kind (firsts x) × Safe firsts P (k (length h)) (h ++ effect.new_object firsts x ∷ [])
+
+  abbrev Final : (List Object → Value → Type 0) → List Object → Ends → Type 0
+  Final P h (Came (Ok v)) = P h v
+  Final P h (Came (Err t)) = U
+  Final P h (Printed line) = P h Null
+
+  abbrev Left : (List Object → Value → Type 0) → List Object → Acted → Type 0
+  Left P h a = Grows h a.heap × IsTypedHeap F a.heap × Final P a.heap a.ends
+
+  left_later : (P : List Object → Value → Type 0) (h later : List Object) (a : Acted) → Grows h later → Left P later a → Left P h a
+  left_later P h later a g l = (grows_then h later a.heap g l.0, l.1, l.2)
+
+  left_or_full : (P : List Object → Value → Type 0) (h : List Object) (b : Bool) (a : Acted) → IsTypedHeap F h → Left P h a → Left P h (unless_full b a h)
+  left_or_full P h true a k l = (stays h, k, tt)
+  left_or_full P h false a k l = l
+
+  leaves : (firsts : Firsts) (P : List Object → Value → Type 0) (act : Act) (h : List Object) → IsTypedHeap F h → Safe firsts P act h → Left P h (acted firsts act h)
+  leaves firsts P (Comes (Ok v)) h k s = (stays h, k, s)
+  leaves firsts P (Comes (Err t)) h k s = (stays h, k, tt)
+  leaves firsts P (Prints line) h k s = (stays h, k, s)
+  leaves firsts P (Reads o i f) h k s = leaves firsts P (f (value_at h o i)) h k s
+  leaves firsts P (Writes o i v f) h k s = left_later P h (written h o i v) (acted firsts f (written h o i v)) (grows_written F h o i v) (leaves firsts P f (written h o i v) (typed_written F h o i v k s.0) s.1)
+  leaves firsts P (Looks o f) h k s = leaves firsts P (f (header_at h o)) h k s
+  leaves firsts P (Makes x f) h k s =
+      let o = effect.new_object firsts x in
+      let later = h ++ o ∷ [] in
+      let a = acted firsts (f (length h)) later in
+      left_or_full P h (has_no_room x.kind x.length h) a k (left_later P h later a (grows_by_one o h) (leaves firsts P (f (length h)) later (typed_with_one o F h k s.0) s.1))
+
+  settled_kept : (P : List Object → Value → Type 0) (s : Shared W) (a : Acted) (e : Ends) → I s.world → Grows s.heap a.heap × IsTypedHeap F a.heap × Final P a.heap e → EndedThere Value P s.heap (came s a (landed s.prints e))
+  settled_kept P s a (Came (Ok v)) i l = (l.0, (l.1, i), l.2)
+  settled_kept P s a (Came (Err t)) i l = tt
+  settled_kept P s a (Printed line) i l = printed (may_print line s.prints)
+    where
+      printed : (b : Bool) → EndedThere Value P s.heap (came s a (printed_if b line s.prints))
+      printed true = (l.0, (l.1, i), l.2)
+      printed false = tt
+
+  -- an act that is safe on each typed heap that grew from this one
+  pub does_kept : (heap : List Object) (firsts : Firsts) (act : Act) (P : List Object → Value → Type 0) → ((later : List Object) → Grows heap later → IsTypedHeap F later → Safe firsts P act later) → KeepsThere heap Value (does firsts act) P
+  does_kept heap firsts act P h = record { at = λ s g k. settled_kept P s (acted firsts act s.heap) (acted firsts act s.heap).ends k.1 (leaves firsts P act s.heap k.0 (h s.heap g k.0)) }
+
+  only_kept : (heap : List Object) (act : Act) → ((later : List Object) → Grows heap later → IsTypedHeap F later → Safe (first_cells no_object) (Anything Value) act later) → KeepsThere heap U (only_acts act) (Anything U)
+  only_kept heap act h = then_there (Anything Value) (Anything U) heap (acts act) (λ v. pure tt) (does_kept heap (first_cells no_object) act (Anything Value) h) (λ later g v u. record { at = λ s l k. (stays s.heap, k, tt) })
+
+  safe_or : {A : Type 0} (firsts : Firsts) (P : List Object → Value → Type 0) (heap : List Object) (x : Result A Thrown) (f : A → Act) → ((a : A) → x ≡ Ok a → Safe firsts P (f a) heap) → Safe firsts P (or_throws x f) heap
+  safe_or firsts P heap (Ok a) f h = h a refl
+  safe_or firsts P heap (Err t) f h = tt
+
+  safe_comes : (firsts : Firsts) (P : List Object → Value → Type 0) (heap : List Object) (x : Applied) → ((v : Value) → x ≡ Ok v → P heap v) → Safe firsts P (Comes x) heap
+  safe_comes firsts P heap (Ok v) h = h v refl
+  safe_comes firsts P heap (Err t) h = tt
+
+  abbrev none : Firsts
+  none = first_cells no_object
 
   pub print_kept : (heap : List Object) (v : Value) → KeepsThere heap U (print_line v) (Anything U)
-  print_kept heap v = record { at = λ s g k. unless U (Anything U) s.heap (nat_lt (length s.prints) max_prints && nat_le (sum_by length s.prints + length (text_of v)) max_printed) (Gives tt (record s { prints = s.prints ++ text_of v ∷ [] })) PrintsOut s (stays s.heap, k, tt) }
+  print_kept heap v = only_kept heap (cells.print_line v) (λ later g k. tt)
 
   -- ---- cells
 
-  write_at : (s : Shared W) (object index : ℕ) (v : Value) → IsTypedHeap F s.heap × I s.world → KeepsCells F s.heap object index v → EndedThere U (Anything U) s.heap (write_cell {Q = Q} object index v s)
-  write_at s object index v h k = (grows_written F s.heap object index v, (typed_written F s.heap object index v h.0 k, h.1), tt)
-
-  field_read : (heap : List Object) (object place class : ℕ) (t : Ty) → kind_at heap object ≡ Some (kind.Object class) → slice_get (fields_of F class) place ≡ Some t → KeepsThere heap Value (read_cell object place) (OfType t)
-  field_read heap object place class t e f = record {
-    at = λ s g k.
-        let c = cells_there F s.heap object (kind.Object class) k.0 (g.kinds object (kind.Object class) e) in
-        (stays s.heap, k, subst (λ (o : Option Object). HasType s.heap t (unwrap_or (cell_of o place) Null)) (sym c.1) (typed_at s.heap (fields_of F class) c.0.cells place t c.2 f));
-  }
-
-  field_written : (heap : List Object) (object place class : ℕ) (t : Ty) (v : Value) → kind_at heap object ≡ Some (kind.Object class) → slice_get (fields_of F class) place ≡ Some t → HasType heap t v → KeepsThere heap U (write_cell object place v) (Anything U)
-  field_written heap object place class t v e f h = record {
-    at = λ s g k. write_at s object place v k (keeps_cells F s.heap object place v (kind.Object class) (g.kinds object (kind.Object class) e) (λ o d c n. types_written s.heap (fields_of F class) o.cells place t v n f (keeps_type heap s.heap g t v h)) k.0);
-  }
+  field_there : (heap : List Object) (object place class : ℕ) (t : Ty) → IsTypedHeap F heap → kind_at heap object ≡ Some (kind.Object class) → slice_get (fields_of F class) place ≡ Some t → HasType heap t (value_at heap object place)
+  field_there heap object place class t k e f =
+      let c = cells_there F heap object (kind.Object class) k e in
+      subst (λ (o : Option Object). HasType heap t (unwrap_or (cell_of o place) Null)) (sym c.1) (typed_at heap (fields_of F class) c.0.cells place t c.2 f)
 
   -- a reference to an object of a class, or null
   pub get_kept : (heap : List Object) (of : Value) (place class : ℕ) (t : Ty) → HasType heap (ty.Object class) of → slice_get (fields_of F class) place ≡ Some t → KeepsThere heap Value (get_field of place) (OfType t)
-  get_kept heap _ place class t (typed.HasType.object _ object e) f = field_read heap object place class t e f
-  get_kept heap _ place class t (typed.HasType.null _ n) f = throws Q K Value (OfType t) heap _
+  get_kept heap _ place class t (typed.HasType.object _ object e) f = does_kept heap none (cells.get_field (Ref object) place) (OfType t) (λ later g k. field_there later object place class t k (g.kinds object (kind.Object class) e) f)
+  get_kept heap _ place class t (typed.HasType.null _ n) f = does_kept heap none (cells.get_field Null place) (OfType t) (λ later g k. tt)
 
   pub put_kept : (heap : List Object) (of : Value) (place class : ℕ) (t : Ty) (v : Value) → HasType heap (ty.Object class) of → slice_get (fields_of F class) place ≡ Some t → HasType heap t v → KeepsThere heap U (put_field of place v) (Anything U)
-  put_kept heap _ place class t v (typed.HasType.object _ object e) f h = field_written heap object place class t v e f h
-  put_kept heap _ place class t v (typed.HasType.null _ n) f h = throws Q K U (Anything U) heap _
-
-  size_kept : (heap : List Object) (object : ℕ) → KeepsThere heap ℕ (size_of object) (Anything ℕ)
-  size_kept heap object = record { at = λ s g k. (stays s.heap, k, tt) }
+  put_kept heap _ place class t v (typed.HasType.object _ object e) f h = only_kept heap (cells.put_field (Ref object) place v) (λ later g k.
+      (keeps_cells F later object place v (kind.Object class) (g.kinds object (kind.Object class) e) (λ o d c n. types_written later (fields_of F class) o.cells place t v n f (keeps_type heap later g t v h)) k, tt))
+  put_kept heap _ place class t v (typed.HasType.null _ n) f h = only_kept heap (cells.put_field Null place v) (λ later g k. tt)
 
   pub reference_kept : (heap : List Object) (of : Value) → KeepsThere heap ℕ (came_to (reference of)) (Anything ℕ)
   reference_kept heap of = comes Q K ℕ (Anything ℕ) heap (reference of) (λ a e later g. tt)
 
   pub length_kept : (heap : List Object) (of : Value) → KeepsThere heap Value (array_length of) (OfType ty.Int)
-  length_kept heap of = then_there (Anything ℕ) (OfType ty.Int) heap (came_to (reference of)) (λ object. size_of object >>= (λ n. pure (size_value n))) (reference_kept heap of) (λ later g object u.
-      then_there (Anything ℕ) (OfType ty.Int) later (size_of object) (λ n. pure (size_value n)) (size_kept later object) (λ last l n w. gives Q K Value (OfType ty.Int) last (size_value n) (λ h m. typed.HasType.int _)))
+  length_kept heap of = does_kept heap none (cells.array_length of) (OfType ty.Int) (λ later g k. safe_or none (OfType ty.Int) later (reference of) _ (λ object e. typed.HasType.int _))
 
   -- ---- elements
 
@@ -139,100 +201,81 @@ module _ (Q W : Type 0) (F : Facts) (I : W → Type 0) where
   place_within Null n i e = absurd (no_ok _ i e)
   place_within (Ref k) n i e = absurd (no_ok _ i e)
 
-  read_at : (s : Shared W) (object : ℕ) (t : Ty) (x : Result ℕ Thrown) → IsTypedHeap F s.heap × I s.world → ((i : ℕ) → x ≡ Ok i → HasType s.heap t (unwrap_or (cell_at s.heap object i) Null)) → EndedThere Value (OfType t) s.heap (then_run (came_to x s) (read_cell object))
-  read_at s object t (Ok i) k h = (stays s.heap, k, h i refl)
-  read_at s object t (Err e) k h = tt
+  element_there : (heap : List Object) (object : ℕ) (of : Element) (index : Value) (i : ℕ) → IsTypedHeap F heap → kind_at heap object ≡ Some (kind.Array (element_number of)) → place_of index (length_in (header_at heap object)) ≡ Ok i → HasType heap (element_type of) (value_at heap object i)
+  element_there heap object of index i k e p =
+      let c = cells_there F heap object (kind.Array (element_number of)) k e in
+      let t = element_type of in
+      let all : AllHaveType heap t c.0.cells = subst (λ (x : Element). AllHaveType heap (element_type x) c.0.cells) (numbered_is of) c.2 in
+      let l : i < length c.0.cells = subst (λ (x : Option Object). i < length_in (option_map effect.header_of x)) c.1 (place_within index (length_in (header_at heap object)) i p) in
+      subst (λ (o : Option Object). HasType heap t (unwrap_or (cell_of o i) Null)) (sym c.1) (all_at heap t c.0.cells i all l)
 
-  written_at : (s : Shared W) (object : ℕ) (v : Value) (x : Result ℕ Thrown) → IsTypedHeap F s.heap × I s.world → ((i : ℕ) → KeepsCells F s.heap object i v) → EndedThere U (Anything U) s.heap (then_run (came_to x s) (λ place. write_cell object place v))
-  written_at s object v (Ok i) k h = write_at s object i v k (h i)
-  written_at s object v (Err e) k h = tt
-
-  element_read : (heap : List Object) (object : ℕ) (of : Element) (index : Value) → kind_at heap object ≡ Some (kind.Array (element_number of)) → KeepsThere heap Value (element_of object index >>= read_cell object) (OfType (element_type of))
-  element_read heap object of index e = record {
-    at = λ s g k.
-        let c = cells_there F s.heap object (kind.Array (element_number of)) k.0 (g.kinds object (kind.Array (element_number of)) e) in
-        let t = element_type of in
-        let all : AllHaveType s.heap t c.0.cells = subst (λ (x : Element). AllHaveType s.heap (element_type x) c.0.cells) (numbered_is of) c.2 in
-        read_at s object t (place_of index (size_in (slice_get s.heap object))) k (λ i p.
-        let l : i < length c.0.cells = subst (λ (x : ℕ). i < x) (ap size_in c.1) (place_within index (size_in (slice_get s.heap object)) i p) in
-        subst (λ (o : Option Object). HasType s.heap t (unwrap_or (cell_of o i) Null)) (sym c.1) (all_at s.heap t c.0.cells i all l));
-  }
-
-  element_written : (heap : List Object) (object : ℕ) (of : Element) (index v : Value) → kind_at heap object ≡ Some (kind.Array (element_number of)) → HasType heap (element_type of) v → KeepsThere heap U (element_of object index >>= (λ place. write_cell object place v)) (Anything U)
-  element_written heap object of index v e h = record {
-    at = λ s g k.
-        let number = element_number of in
-        let t : HasType s.heap (element_type (numbered_element number)) v = subst (λ (x : Element). HasType s.heap (element_type x) v) (sym (numbered_is of)) (keeps_type heap s.heap g (element_type of) v h) in
-        written_at s object v (place_of index (size_in (slice_get s.heap object))) k (λ i.
-        keeps_cells F s.heap object i v (kind.Array number) (g.kinds object (kind.Array number) e) (λ o d c n. all_written s.heap (element_type (numbered_element number)) o.cells i v n t) k.0);
-  }
+  element_keeps : (heap : List Object) (object : ℕ) (of : Element) (i : ℕ) (v : Value) → IsTypedHeap F heap → kind_at heap object ≡ Some (kind.Array (element_number of)) → HasType heap (element_type of) v → KeepsCells F heap object i v
+  element_keeps heap object of i v k e h =
+      let number = element_number of in
+      let t : HasType heap (element_type (numbered_element number)) v = subst (λ (x : Element). HasType heap (element_type x) v) (sym (numbered_is of)) h in
+      keeps_cells F heap object i v (kind.Array number) e (λ o d c n. all_written heap (element_type (numbered_element number)) o.cells i v n t) k
 
   pub load_kept : (heap : List Object) (of : Value) (t : Element) (index : Value) → HasType heap (ty.Array t) of → KeepsThere heap Value (load of index) (OfType (element_type t))
-  load_kept heap _ t index (typed.HasType.array _ object e) = element_read heap object t index e
-  load_kept heap _ t index (typed.HasType.null _ n) = throws Q K Value (OfType (element_type t)) heap _
+  load_kept heap _ t index (typed.HasType.array _ object e) = does_kept heap none (cells.load (Ref object) index) (OfType (element_type t)) (λ later g k.
+      safe_or none (OfType (element_type t)) later (place_of index (length_in (header_at later object))) _ (λ i p. element_there later object t index i k (g.kinds object (kind.Array (element_number t)) e) p))
+  load_kept heap _ t index (typed.HasType.null _ n) = does_kept heap none (cells.load Null index) (OfType (element_type t)) (λ later g k. tt)
 
   pub store_kept : (heap : List Object) (of : Value) (t : Element) (index v : Value) → HasType heap (ty.Array t) of → HasType heap (element_type t) v → KeepsThere heap U (store of index v) (Anything U)
-  store_kept heap _ t index v (typed.HasType.array _ object e) h = element_written heap object t index v e h
-  store_kept heap _ t index v (typed.HasType.null _ n) h = throws Q K U (Anything U) heap _
+  store_kept heap _ t index v (typed.HasType.array _ object e) h = only_kept heap (cells.store (Ref object) index v) (λ later g k.
+      safe_or none (Anything Value) later (place_of index (length_in (header_at later object))) _ (λ i p. (element_keeps later object t i v k (g.kinds object (kind.Array (element_number t)) e) (keeps_type heap later g (element_type t) v h), tt)))
+  store_kept heap _ t index v (typed.HasType.null _ n) h = only_kept heap (cells.store Null index v) (λ later g k. tt)
 
   -- ---- new objects
 
-  allocate_kept : (heap : List Object) (k : Kind) (site : ℕ) (cells : List Value) (t : Ty) → HasCells F heap k cells → ((h : List Object) (place : ℕ) → kind_at h place ≡ Some k → HasType h t (Ref place)) → KeepsThere heap Value (allocate k site cells) (OfType t)
-  allocate_kept heap k site cells t c f = record {
-    at = λ s g h.
-        let o = fresh_object k site cells in
-        let typed = typed_with_one o F s.heap h.0 (cells_keep heap s.heap g F k cells c) in
-        denied s k site cells t (has_no_room k (length cells) s.heap) (grows_by_one o s.heap, (typed, h.1), f (s.heap ++ o ∷ []) (length s.heap) (kind_of_new o s.heap));
-  }
-    where
-      denied : (s : Shared W) (k : Kind) (site : ℕ) (cells : List Value) (t : Ty) (b : Bool) → EndedThere Value (OfType t) s.heap (Gives (Ref (length s.heap)) (record s { heap = s.heap ++ fresh_object k site cells ∷ [] })) → EndedThere Value (OfType t) s.heap (if b then Throws HeapFull s else Gives (Ref (length s.heap)) (record s { heap = s.heap ++ fresh_object k site cells ∷ [] }))
-      denied s k site cells t true h = tt
-      denied s k site cells t false h = h
-
   pub object_kept : (heap : List Object) (class site : ℕ) → KeepsThere heap Value (new_object class site (fields_of F class)) (OfType (ty.Object class))
-  object_kept heap class site = allocate_kept heap (kind.Object class) site (map default_of (fields_of F class)) (ty.Object class) (defaults_typed heap (fields_of F class)) (λ h place e. typed.HasType.object class place e)
+  object_kept heap class site =
+      let fresh = fresh_with (fields_of F class) in
+      does_kept heap (first_cells fresh) (cells.make_object fresh class site) (OfType (ty.Object class)) (λ later g k.
+      (defaults_typed later (fields_of F class), typed.HasType.object class (length later) (kind_of_new (effect.new_object (first_cells fresh) (cells.object_header fresh class site)) later)))
 
-  elements_kept : (heap : List Object) (site : ℕ) (of : Element) (n : ℕ) → KeepsThere heap Value (allocate (kind.Array (element_number of)) site (replicate n (element_default of))) (OfType (ty.Array of))
-  elements_kept heap site of n =
+  same_default : (of : Element) → cells.element_default (element_number of) ≡ element_default of
+  same_default element.Int = refl
+  same_default element.Long = refl
+  same_default element.Boolean = refl
+  same_default element.Text = refl
+  same_default (element.Object class) = let q : 4 + class ≡ suc (suc (suc (suc class))) = omega arith in ap cells.element_default q
+
+  elements_typed : (heap : List Object) (of : Element) (n : ℕ) → HasCells F heap (kind.Array (element_number of)) (replicate n (cells.element_default (element_number of)))
+  elements_typed heap of n =
       let all : AllHaveType heap (element_type of) (replicate n (element_default of)) = all_replicated heap (element_type of) (element_default of) n (element_default_typed heap of) in
-      allocate_kept heap (kind.Array (element_number of)) site (replicate n (element_default of)) (ty.Array of) (subst (λ (x : Element). AllHaveType heap (element_type x) (replicate n (element_default of))) (sym (numbered_is of)) all) (λ h place e. typed.HasType.array of place e)
+      let numbered = subst (λ (x : Element). AllHaveType heap (element_type x) (replicate n (element_default of))) (sym (numbered_is of)) all in
+      subst (λ (x : Value). AllHaveType heap (element_type (numbered_element (element_number of))) (replicate n x)) (sym (same_default of)) numbered
 
-  pub array_kept : (heap : List Object) (site : ℕ) (of : Element) (size : Value) → KeepsThere heap Value (new_elements site of size) (OfType (ty.Array of))
-  array_kept heap site of size = then_there (Anything ℕ) (OfType (ty.Array of)) heap (came_to (array_size size)) (λ n. allocate (kind.Array (element_number of)) site (replicate n (element_default of))) (comes Q K ℕ (Anything ℕ) heap (array_size size) (λ a e later g. tt)) (λ later g n u. elements_kept later site of n)
+  pub array_kept : (heap : List Object) (site : ℕ) (of : Element) (size : Value) → KeepsThere heap Value (new_array site (ty.Array of) size) (OfType (ty.Array of))
+  array_kept heap site of size = does_kept heap none (cells.make_array (element_number of) site size) (OfType (ty.Array of)) (λ later g k.
+      safe_or none (OfType (ty.Array of)) later (array_size size) _ (λ n e. (elements_typed later of n, typed.HasType.array of (length later) (kind_of_new (effect.new_object none (cells.array_header (element_number of) site n)) later))))
 
   -- ---- result sets
 
-  cursor_written : (heap : List Object) (number object : ℕ) (v : Value) → kind_at heap object ≡ Some (kind.Rows number) → ((h : List Object) → HasType h ty.Int v) → KeepsThere heap U (write_cell object 0 v) (Anything U)
-  cursor_written heap number object v e h = record {
-    at = λ s g k. write_at s object 0 v k (keeps_cells F s.heap object 0 v (kind.Rows number) (g.kinds object (kind.Rows number) e) (λ o d c n. with_cursor s.heap v o.cells (h s.heap) n) k.0);
-  }
+  cursor_keeps : (heap : List Object) (number object n : ℕ) → IsTypedHeap F heap → kind_at heap object ≡ Some (kind.Rows number) → KeepsCells F heap object 0 (size_value n)
+  cursor_keeps heap number object n k e = keeps_cells F heap object 0 (size_value n) (kind.Rows number) e (λ o d c r. with_cursor o.cells r) k
     where
-      with_cursor : (heap : List Object) (v : Value) (cells : List Value) → HasType heap ty.Int v → AreRows heap cells → AreRows heap (slice_set cells 0 v)
-      with_cursor heap v [] h n = absurd n
-      with_cursor heap v (c ∷ cells) h n = (h, n.1)
-
-  place_kept : (heap : List Object) (object : ℕ) → KeepsThere heap Place (place_at F object) (Anything Place)
-  place_kept heap object = record { at = λ s g k. (stays s.heap, k, tt) }
-
-  moved_on : (heap : List Object) (number object : ℕ) (p : Place) → kind_at heap object ≡ Some (kind.Rows number) → KeepsThere heap Value (move_on object p) (OfType ty.Boolean)
-  moved_on heap number object p e = then_there (Anything U) (OfType ty.Boolean) heap (write_cell object 0 (size_value (moved p))) (λ u. pure (Truth (nat_le (moved p) p.rows))) (cursor_written heap number object (size_value (moved p)) e (λ h. typed.HasType.int _)) (λ later g u w. gives Q K Value (OfType ty.Boolean) later (Truth (nat_le (moved p) p.rows)) (λ h m. typed.HasType.truth _))
+      with_cursor : (cs : List Value) → AreRows heap cs → AreRows heap (slice_set cs 0 (size_value n))
+      with_cursor [] r = absurd r
+      with_cursor (c ∷ cs) r = (typed.HasType.int _, r.1)
 
   pub next_kept : (heap : List Object) (of : Value) → HasType heap ty.ResultSet of → KeepsThere heap Value (next F of) (OfType ty.Boolean)
-  next_kept heap _ (typed.HasType.rows number object e) = then_there (Anything Place) (OfType ty.Boolean) heap (place_at F object) (move_on object) (place_kept heap object) (λ later g p u. moved_on later number object p (g.kinds object (kind.Rows number) e))
-  next_kept heap _ (typed.HasType.null _ n) = throws Q K Value (OfType ty.Boolean) heap _
+  next_kept heap _ (typed.HasType.rows number object e) = does_kept heap none (rows.next (statements_of F) (Ref object)) (OfType ty.Boolean) (λ later g k.
+      (cursor_keeps later number object _ k (g.kinds object (kind.Rows number) e), typed.HasType.truth _))
+  next_kept heap _ (typed.HasType.null _ n) = does_kept heap none (rows.next (statements_of F) Null) (OfType ty.Boolean) (λ later g k. tt)
 
-  cell_kept : (heap : List Object) (object index : ℕ) → KeepsThere heap Value (read_cell object index) (Anything Value)
-  cell_kept heap object index = record { at = λ s g k. (stays s.heap, k, tt) }
+  -- what is wanted has a type on any heap
+  abbrev Wanted : (Value → Result Value Thrown) → Ty → Type 0
+  Wanted wanted t = (v w : Value) → wanted v ≡ Ok w → (h : List Object) → HasType h t w
 
-  pub column_kept : (heap : List Object) (wanted : Value → Result Value Thrown) (of index : Value) (t : Ty) → ((v w : Value) → wanted v ≡ Ok w → (h : List Object) → HasType h t w) → KeepsThere heap Value (get_column F wanted of index) (OfType t)
-  column_kept heap wanted of index t f =
-      then_there (Anything ℕ) (OfType t) heap (came_to (reference of)) (column_of F wanted index) (reference_kept heap of) (λ later g object u.
-      then_there (Anything Value) (OfType t) later (place_at F object >>= (λ p. came_to (cell_in p index) >>= read_cell object)) (λ v. came_to (wanted v))
-      (then_there (Anything Place) (Anything Value) later (place_at F object) (λ p. came_to (cell_in p index) >>= read_cell object) (place_kept later object) (λ h l p w.
-      then_there (Anything ℕ) (Anything Value) h (came_to (cell_in p index)) (read_cell object) (comes Q K ℕ (Anything ℕ) h (cell_in p index) (λ a e i j. tt)) (λ i j n x. cell_kept i object n)))
-      (λ h l v w. comes Q K Value (OfType t) h (wanted v) (λ a e i j. f v a e i)))
+  column_kept : (heap : List Object) (wanted : Value → Result Value Thrown) (of index : Value) (t : Ty) → Wanted wanted t → KeepsThere heap Value (acts (rows.get_column (statements_of F) wanted of index)) (OfType t)
+  column_kept heap wanted of index t f = does_kept heap none (rows.get_column (statements_of F) wanted of index) (OfType t) (λ later g k.
+      safe_or none (OfType t) later (reference of) _ (λ object e.
+      let p = standing (width_at (statements_of F) (header_at later object)) (length_in (header_at later object)) (value_at later object 0) in
+      safe_or none (OfType t) later (cell_in p index) _ (λ i d.
+      safe_comes none (OfType t) later (wanted (value_at later object i)) (λ w n. f (value_at later object i) w n later))))
 
-  pub long_wanted : (v w : Value) → long_in v ≡ Ok w → (h : List Object) → HasType h ty.Long w
+  long_wanted : (v w : Value) → long_in v ≡ Ok w → (h : List Object) → HasType h ty.Long w
   long_wanted (Long n) w e h = subst (λ (x : Value). HasType h ty.Long x) (is_ok (Long n) w e) (typed.HasType.long n)
   long_wanted (Int n) w e h = absurd (no_ok _ w e)
   long_wanted (Truth n) w e h = absurd (no_ok _ w e)
@@ -240,13 +283,19 @@ module _ (Q W : Type 0) (F : Facts) (I : W → Type 0) where
   long_wanted Null w e h = absurd (no_ok _ w e)
   long_wanted (Ref n) w e h = absurd (no_ok _ w e)
 
-  pub text_wanted : (v w : Value) → text_in v ≡ Ok w → (h : List Object) → HasType h ty.Text w
+  text_wanted : (v w : Value) → text_in v ≡ Ok w → (h : List Object) → HasType h ty.Text w
   text_wanted (Text n) w e h = subst (λ (x : Value). HasType h ty.Text x) (is_ok (Text n) w e) (typed.HasType.text n)
   text_wanted (Int n) w e h = absurd (no_ok _ w e)
   text_wanted (Long n) w e h = absurd (no_ok _ w e)
   text_wanted (Truth n) w e h = absurd (no_ok _ w e)
   text_wanted Null w e h = absurd (no_ok _ w e)
   text_wanted (Ref n) w e h = absurd (no_ok _ w e)
+
+  pub long_kept : (heap : List Object) (of index : Value) → KeepsThere heap Value (get_long F of index) (OfType ty.Long)
+  long_kept heap of index = column_kept heap long_in of index ty.Long long_wanted
+
+  pub string_kept : (heap : List Object) (of index : Value) → KeepsThere heap Value (get_string F of index) (OfType ty.Text)
+  string_kept heap of index = column_kept heap text_in of index ty.Text text_wanted
 
   -- ---- operations
 
@@ -281,41 +330,64 @@ module _ (Q W : Type 0) (F : Facts) (I : W → Type 0) where
   abbrev IsSent : List Ty → List Object → List Value → Type 0
   IsSent ts heap vs = (length vs ≡ length ts) × AllKept vs
 
-  sent_kept : (heap : List Object) (ts : List Ty) (vs : List Value) → AreSendable ts → HaveTypes heap ts vs → KeepsThere heap (List Value) (came_to (sent vs)) (IsSent ts)
-  sent_kept heap ts vs a h = comes Q K (List Value) (IsSent ts) heap (sent vs) (λ ws e later g.
+  sent_kept : (heap : List Object) (ts : List Ty) (vs ws : List Value) → AreSendable ts → HaveTypes heap ts vs → sent vs ≡ Ok ws → IsSent ts heap ws
+  sent_kept heap ts vs ws a h e =
       let r = sent_by (list_any is_null vs) (are_short vs) vs ws e in
-      subst (λ (xs : List Value). (length xs ≡ length ts) × AllKept xs) r.1 (same_count heap ts vs h, kept_values heap ts vs a h r.0))
+      subst (λ (xs : List Value). (length xs ≡ length ts) × AllKept xs) r.1 (same_count heap ts vs h, kept_values heap ts vs a h r.0)
 
-  counted_kept : (heap : List Object) → KeepsThere heap U counted (Anything U)
-  counted_kept heap = record { at = λ s g k. unless U (Anything U) s.heap (nat_lt s.operations max_operations) (Gives tt (record s { operations = s.operations + 1 })) OpsOut s (stays s.heap, k, tt) }
+  abbrev IsSaid : Statement → List Object → Said → Type 0
+  IsSaid statement heap (Answers a) = IsAnswerTo statement a
+  IsSaid statement heap Out = U
 
   module _ (ask : Ask Q W) (answers : AnswersTyped F ask I) where
-    told : (s : Shared W) (o : TableOp) (x : Outcome Q W Answer) → ask o s.world ≡ x → IsAsked F o → IsTypedHeap F s.heap × I s.world → EndedThere Answer (λ h a. IsAnswerTo o.statement a) s.heap (in_world s x)
-    told s o (Gives a w) e p k = let r = answers o s.world k.1 p a w e in (stays s.heap, (k.0, r.0), r.1)
-    told s o (Throws t w) e p k = tt
-    told s o (Asks q z) e p k = tt
+    abbrev says : Answer → There Q W Said
+    says a = pure (Answers a)
 
-    asked_kept : (heap : List Object) (o : TableOp) → IsAsked F o → KeepsThere heap Answer (asked ask o) (λ h a. IsAnswerTo o.statement a)
-    asked_kept heap o p = record { at = λ s g k. told s o (ask o s.world) refl p k }
+    answered : (s : Shared W) (o : TableOp) (x : Outcome Q W Answer) → ask o s.world ≡ x → IsAsked F o → IsTypedHeap F s.heap × I s.world → EndedThere Said (IsSaid o.statement) s.heap (then_run (in_world (counted s) x) says)
+    answered s o (Gives a w) e p k = let r = answers o s.world k.1 p a w e in (stays s.heap, (k.0, r.0), r.1)
+    answered s o (Throws t w) e p k = tt
+    answered s o (Asks q z) e p k = tt
 
-    operate_kept : (heap : List Object) (number : ℕ) (o : Operation) (vs : List Value) → by_number F.operations number ≡ Some o → AreSendable o.params → HaveTypes heap o.params vs → KeepsThere heap Answer (operate ask number o.statement vs) (λ h a. IsAnswerTo o.statement a)
-    operate_kept heap number o vs e a h =
-        then_there (IsSent o.params) (λ h x. IsAnswerTo o.statement x) heap (came_to (sent vs)) (λ params. counted >>= (λ u. asked ask (operation_with number o.statement params))) (sent_kept heap o.params vs a h) (λ later g params p.
-        then_there (Anything U) (λ h x. IsAnswerTo o.statement x) later counted (λ u. asked ask (operation_with number o.statement params)) (counted_kept later) (λ last l u w.
-        asked_kept last (operation_with number o.statement params) (record { number = number; operation = o; operation_is = e; statement = refl; count = p.0; kept = p.1 })))
+    told_kept : (heap : List Object) (o : TableOp) → IsAsked F o → KeepsThere heap Said (told ask o) (IsSaid o.statement)
+    told_kept heap o p = record { at = λ s g k. unless s (nat_lt s.operations max_operations) k (answered s o (ask o s.world) refl p k) }
+      where
+        unless : (s : Shared W) (b : Bool) → IsTypedHeap F s.heap × I s.world → EndedThere Said (IsSaid o.statement) s.heap (then_run (in_world (counted s) (ask o s.world)) says) → EndedThere Said (IsSaid o.statement) s.heap (if b then then_run (in_world (counted s) (ask o s.world)) says else Gives Out s)
+        unless s true k h = h
+        unless s false k h = (stays s.heap, k, tt)
 
-    rows_made : (heap : List Object) (number site : ℕ) (statement : Statement) (a : Answer) → IsAnswerTo statement a → KeepsThere heap Value (made_rows number site a) (OfType ty.ResultSet)
-    rows_made heap number site statement (Rows width cells) h = allocate_kept heap (kind.Rows number) site (Int (pos 0) ∷ cells) ty.ResultSet (typed.HasType.int _, h.1) (λ h place e. typed.HasType.rows number place e)
-    rows_made heap number site statement (Count n) h = gives Q K Value (OfType ty.ResultSet) heap Null (λ later g. typed.HasType.null ty.ResultSet tt)
-    rows_made heap number site statement Refused h = gives Q K Value (OfType ty.ResultSet) heap Null (λ later g. typed.HasType.null ty.ResultSet tt)
+    module _ (f : Answer → Act) (R : List Object → Value → Type 0) (statement : Statement) (goes : (later : List Object) (a : Answer) → IsAnswerTo statement a → KeepsThere later Value (does none (f a)) R) where
+      said_kept : (heap : List Object) (said : Said) → IsSaid statement heap said → KeepsThere heap Value (does none (with_said f said)) R
+      said_kept heap (Answers a) h = goes heap a h
+      said_kept heap Out h = does_kept heap none (with_said f Out) R (λ later g k. tt)
+
+      sends_kept : (heap : List Object) (number : ℕ) (o : Operation) (x : Result (List Value) Thrown) → o.statement ≡ statement → by_number F.operations number ≡ Some o → ((ws : List Value) → x ≡ Ok ws → IsSent o.params heap ws) → KeepsThere heap Value (works none ask (operates_on number statement x) f) R
+      sends_kept heap number o (Ok params) d e h =
+          let p = h params refl in
+          let q = operation_with number statement params in
+          then_there (IsSaid statement) R heap (told ask q) (λ said. does none (with_said f said)) (told_kept heap q (record { number = number; operation = o; operation_is = e; statement = sym d; count = p.0; kept = p.1 })) (λ later g said k. said_kept later said k)
+      sends_kept heap number o (Err t) d e h = does_kept heap none (Comes (Err t)) R (λ later g k. tt)
+
+    rows_made : (heap : List Object) (number site : ℕ) (statement : Statement) (a : Answer) → IsAnswerTo statement a → KeepsThere heap Value (does none (make_rows number site a)) (OfType ty.ResultSet)
+    rows_made heap number site statement (Rows width cells) h = record {
+      at = λ s g k.
+          let o = rows_object number site cells in
+          subst (λ (x : Outcome Q (Shared W) Value). EndedThere Value (OfType ty.ResultSet) s.heap x) (sym (rows_are_made Q W no_object number site width cells s))
+          (denied s o (has_no_room o.header.kind o.header.length s.heap) (grows_by_one o s.heap, (typed_with_one o F s.heap k.0 (typed.HasType.int _, h.1), k.1), typed.HasType.rows number (length s.heap) (kind_of_new o s.heap)));
+    }
+      where
+        denied : (s : Shared W) (o : Object) (b : Bool) → EndedThere Value (OfType ty.ResultSet) s.heap (Gives (Ref (length s.heap)) (record s { heap = s.heap ++ o ∷ [] })) → EndedThere Value (OfType ty.ResultSet) s.heap (if b then Throws HeapFull s else Gives (Ref (length s.heap)) (record s { heap = s.heap ++ o ∷ [] }))
+        denied s o true h = tt
+        denied s o false h = h
+    rows_made heap number site statement (Count n) h = does_kept heap none (make_rows number site (Count n)) (OfType ty.ResultSet) (λ later g k. typed.HasType.null ty.ResultSet tt)
+    rows_made heap number site statement Refused h = does_kept heap none (make_rows number site Refused) (OfType ty.ResultSet) (λ later g k. typed.HasType.null ty.ResultSet tt)
 
     pub query_kept : (heap : List Object) (number site : ℕ) (o : Operation) (vs : List Value) → by_number F.operations number ≡ Some o → AreSendable o.params → HaveTypes heap o.params vs → KeepsThere heap Value (query ask number site (Some o) vs) (OfType ty.ResultSet)
-    query_kept heap number site o vs e a h = then_there (λ h x. IsAnswerTo o.statement x) (OfType ty.ResultSet) heap (operate ask number o.statement vs) (made_rows number site) (operate_kept heap number o vs e a h) (λ later g x p. rows_made later number site o.statement x p)
+    query_kept heap number site o vs e a h = sends_kept (make_rows number site) (OfType ty.ResultSet) o.statement (λ later x p. rows_made later number site o.statement x p) heap number o (sent vs) refl e (λ ws d. sent_kept heap o.params vs ws a h d)
 
-    change_told : (heap : List Object) (statement : Statement) (a : Answer) → is_select statement ≡ false → IsAnswerTo statement a → KeepsThere heap Value (came_to (changed a)) (OfType ty.Int)
-    change_told heap statement (Count n) e h = gives Q K Value (OfType ty.Int) heap (size_value n) (λ later g. typed.HasType.int _)
-    change_told heap statement Refused e h = throws Q K Value (OfType ty.Int) heap _
+    change_told : (heap : List Object) (statement : Statement) (a : Answer) → is_select statement ≡ false → IsAnswerTo statement a → KeepsThere heap Value (does none (changed a)) (OfType ty.Int)
+    change_told heap statement (Count n) e h = does_kept heap none (changed (Count n)) (OfType ty.Int) (λ later g k. typed.HasType.int _)
+    change_told heap statement Refused e h = does_kept heap none (changed Refused) (OfType ty.Int) (λ later g k. tt)
     change_told heap statement (Rows width cells) e h = absurd (true≢false (sym h.0 ∙ e))
 
     pub update_kept : (heap : List Object) (number : ℕ) (o : Operation) (vs : List Value) → by_number F.operations number ≡ Some o → is_select o.statement ≡ false → AreSendable o.params → HaveTypes heap o.params vs → KeepsThere heap Value (update ask number (Some o) vs) (OfType ty.Int)
-    update_kept heap number o vs e f a h = then_there (λ h x. IsAnswerTo o.statement x) (OfType ty.Int) heap (operate ask number o.statement vs) (λ x. came_to (changed x)) (operate_kept heap number o vs e a h) (λ later g x p. change_told later o.statement x f p)
+    update_kept heap number o vs e f a h = sends_kept changed (OfType ty.Int) o.statement (λ later x p. change_told later o.statement x f p) heap number o (sent vs) refl e (λ ws d. sent_kept heap o.params vs ws a h d)

@@ -21,8 +21,8 @@ use Rattle.px_facts.specs.declared.operation.Operation.{Operation}
 use Rattle.px_facts.specs.Types.{element_type}
 use Rattle.px_semantics.specs.Run.{Here, came_to, turn}
 use Rattle.px_semantics.specs.Facts.{type_at, named_at, by_number, fields_of, params_in, operands_in, params_of, prefix_of}
-use Rattle.px_semantics.specs.Effects.{reference, get_field, put_field, array_length, load, store, new_object, new_array}
-use Rattle.px_semantics.specs.Operations.{Ask, query, update, next, get_column, long_in, text_in}
+use Rattle.px_semantics.specs.Effects.{reference, get_field, put_field, array_length, load, store, new_object, new_array, next, get_long, get_string}
+use Rattle.px_semantics.specs.Operations.{Ask, query, update}
 use Rattle.px_semantics.specs.Expressions.{Calls, Around, Meant, no_place, fit, literal, assign_slot, this_value, name_value, put_name, member_value, put_member, fitted, receiver, result_value, value_at, call_method, invoke, called, made_object, made_array, prefixed, decides, combined, binary, meant}
 use Rattle.px_semantics.specs.Typed as typed
 use Rattle.px_semantics.specs.Typing as typing
@@ -31,7 +31,7 @@ use Rattle.px_semantics.specs.Typing.{literal_type, PrefixGives, BinaryGives, Gi
 use Rattle.px_semantics.specs.TypedRuns.{AnswersTyped}
 use Rattle.px_semantics.proofs.Forms.{meant_number, meant_text, meant_true, meant_false, meant_null, meant_this, meant_name, meant_group, meant_field, meant_index, meant_call, meant_new_object, meant_new_array, meant_prefix, meant_binary}
 use Rattle.px_semantics.proofs.TypedHeaps.{Grows, keeps_type, keep_types, typed_at}
-use Rattle.px_semantics.proofs.TypedEffects.{U, OfType, Anything, KeepsThere, then_there, turn_kept, get_kept, put_kept, reference_kept, length_kept, load_kept, store_kept, object_kept, array_kept, next_kept, column_kept, long_wanted, text_wanted, query_kept, update_kept}
+use Rattle.px_semantics.proofs.TypedEffects.{U, OfType, Anything, KeepsThere, then_there, turn_kept, get_kept, put_kept, reference_kept, length_kept, load_kept, store_kept, object_kept, array_kept, next_kept, long_kept, string_kept, query_kept, update_kept}
 use Rattle.px_semantics.proofs.TypedOperators.{length_gives, equals_gives, prefix_applies, binary_applies}
 use Rattle.px_semantics.proofs.TypedHere.{KeepsHere, then_here, shared_here, slot_here, assign_here, value_here, nothing_here, came_here, Always, fitted_here, Sound, no_place_sound, AllSound, all_fitted, all_as_they_are, called_here}
 
@@ -149,10 +149,10 @@ module _ (Q W : Type 0) (F : Facts) (I : W → Type 0) (slots : List Ty) (ask : 
       (λ later values h. shared_here Q W F I slots Value (OfType ty.Boolean) later (next F (value_at values 0)) (next_kept Q W F I later (value_at values 0) (typed_at later (ty.ResultSet ∷ []) values 0 ty.ResultSet h refl)))
   calls_library _ _ _ _ m args typing.IsLibrary.get_long s a heap =
       called_here Q W F I slots heap (ty.ResultSet ∷ []) (ty.Int ∷ []) (m.run ∷ []) (fitted [] 0 args) (invoke P named.GetLong) ty.Long (s.run, tt) (all_as_they_are Q W F I slots 0 (ty.Int ∷ []) args (λ h. tt, tt) a)
-      (λ later values h. shared_here Q W F I slots Value (OfType ty.Long) later (get_column F long_in (value_at values 0) (value_at values 1)) (column_kept Q W F I later long_in (value_at values 0) (value_at values 1) ty.Long (long_wanted Q W F I)))
+      (λ later values h. shared_here Q W F I slots Value (OfType ty.Long) later (get_long F (value_at values 0) (value_at values 1)) (long_kept Q W F I later (value_at values 0) (value_at values 1)))
   calls_library _ _ _ _ m args typing.IsLibrary.get_string s a heap =
       called_here Q W F I slots heap (ty.ResultSet ∷ []) (ty.Int ∷ []) (m.run ∷ []) (fitted [] 0 args) (invoke P named.GetString) ty.Text (s.run, tt) (all_as_they_are Q W F I slots 0 (ty.Int ∷ []) args (λ h. tt, tt) a)
-      (λ later values h. shared_here Q W F I slots Value (OfType ty.Text) later (get_column F text_in (value_at values 0) (value_at values 1)) (column_kept Q W F I later text_in (value_at values 0) (value_at values 1) ty.Text (text_wanted Q W F I)))
+      (λ later values h. shared_here Q W F I slots Value (OfType ty.Text) later (get_string F (value_at values 0) (value_at values 1)) (string_kept Q W F I later (value_at values 0) (value_at values 1)))
 
   calls_query : (number site : ℕ) (o : Operation) (of : Option (Meant Q W)) (written : Meant Q W) (args : List (Meant Q W)) → by_number F.operations number ≡ Some o → AreSendable o.params → Args o.params args → Runs ty.ResultSet (called P (named.Query number site) of (written ∷ args))
   calls_query number site o of written args e p a heap =

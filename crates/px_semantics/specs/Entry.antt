@@ -1,9 +1,8 @@
 -- The meaning of an entry call: a transaction on its session's heap and on the world.
-use Rattle.std.specs.Prelude.{ℕ, List, [], ◌∷◌, map, Option, Some, None, slice_get}
+use Rattle.std.specs.Prelude.{ℕ, List, [], ◌∷◌, Option, Some, None, slice_get}
 use Rattle.px_value.specs.declared.value.Value.{Value}
 use Rattle.px_value.specs.declared.value.Value.TheVariants.{Ref}
 use Rattle.px_value.specs.declared.object.Object.{Object}
-use Rattle.px_value.specs.declared.header.Kind.TheVariants as kind
 unfoldable pub use Rattle.px_value.specs.Limits.{all_frames}
 use Rattle.px_value.specs.Outcome.{Outcome, Gives, Throws, Asks}
 use Rattle.px_facts.specs.declared.checked.Entry.{Entry}
@@ -11,14 +10,16 @@ use Rattle.px_facts.specs.declared.checked.Facts.{Facts}
 use Rattle.px_code.specs.declared.reply.Reply.{Reply}
 use Rattle.px_code.specs.declared.reply.Reply.TheVariants as reply
 use Rattle.px_semantics.specs.Run.{Shared}
-use Rattle.px_semantics.specs.Facts.{default_of, fields_of}
-use Rattle.px_semantics.specs.Effects.{fresh_object}
+use Rattle.px_semantics.specs.Facts.{fields_of}
+use Rattle.px_effects.specs.Act.{new_object}
+use Rattle.px_effects.specs.Cells.{first_cells, object_header}
+use Rattle.px_semantics.specs.Effects.{fresh_with}
 use Rattle.px_semantics.specs.Operations.{Ask}
 use Rattle.px_semantics.specs.Calls.{Source, calls_in}
 
 -- a session's first heap: one object of Main, before anything is written
 abbrev pub first_heap : Facts → List Object
-first_heap F = fresh_object (kind.Object F.main.class) 0 (map default_of (fields_of F F.main.class)) ∷ []
+first_heap F = let fresh = fresh_with (fields_of F F.main.class) in new_object (first_cells fresh) (object_header fresh F.main.class 0) ∷ []
 
 -- the run of a method as an entry: object 0 of the heap is `this`
 abbrev pub exec : {Q W : Type 0} → Ask Q W → Source → List Object → W → ℕ → List Value → Outcome Q (Shared W) (Option Value)

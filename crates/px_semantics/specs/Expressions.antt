@@ -19,8 +19,8 @@ use Rattle.px_facts.specs.declared.checked.Named.TheVariants as named
 use Rattle.px_facts.specs.declared.checked.Facts.{Facts}
 use Rattle.px_semantics.specs.Run.{with_slots, Here, There, gather, came_to, turn}
 use Rattle.px_semantics.specs.Facts.{type_at, named_at, by_number, fields_of, params_of, op_of, prefix_of}
-use Rattle.px_semantics.specs.Effects.{reference, get_field, put_field, array_length, load, store, new_object, new_array}
-use Rattle.px_semantics.specs.Operations.{Ask, query, update, next, get_column, long_in, text_in}
+use Rattle.px_semantics.specs.Effects.{reference, get_field, put_field, array_length, load, store, new_object, new_array, next, get_long, get_string}
+use Rattle.px_semantics.specs.Operations.{Ask, query, update}
 
 -- what a call of a method does, by its number, of the receiver and the arguments
 abbrev pub Calls : Type 0 → Type 0 → Type 0
@@ -124,8 +124,8 @@ invoke P named.TextEquals values = came_to (apply op.Equals (value_at values 0) 
 invoke P (named.Query number site) values = on_shared (query P.ask number site (by_number P.facts.operations number) values)
 invoke P (named.Update number) values = on_shared (update P.ask number (by_number P.facts.operations number) values)
 invoke P named.Next values = on_shared (next P.facts (value_at values 0))
-invoke P named.GetLong values = on_shared (get_column P.facts long_in (value_at values 0) (value_at values 1))
-invoke P named.GetString values = on_shared (get_column P.facts text_in (value_at values 0) (value_at values 1))
+invoke P named.GetLong values = on_shared (get_long P.facts (value_at values 0) (value_at values 1))
+invoke P named.GetString values = on_shared (get_string P.facts (value_at values 0) (value_at values 1))
 invoke P _ values = pure Null
 
 abbrev pub is_operation : Named → Bool

@@ -1,8 +1,11 @@
 //! What of jobs no clause says.
 use itoa::Buffer;
-use px_facts::Entry;
-use px_job::{Job, JobCode, JobError, JobFault, read_job};
-use px_value::{Column, ColumnType, Schema, Table, Text, Ty};
+use px_code::Side;
+use px_facts::{Checked, Entry, Facts, Main};
+use px_job::{Job, JobCode, JobError, JobFault, first_beyond, read_job};
+use px_normal::{Class, Code, Field, Method, Node, NodeKind, Operand, Tree, Ty as SlotTy, Word};
+use px_tree::Program as Source;
+use px_value::{Column, ColumnType, Schema, Table, Text, Ty, Value};
 use sqlite_items::Items;
 use std::alloc::{AllocError, Global};
 use std::process::Abort;
@@ -11,8 +14,8 @@ use std::test::Fail;
 // What a job is read for.
 #[derive(Drop)]
 struct Program {
-    entries: Items<Entry>,
-    schema: Schema,
+    checked: Checked,
+    code: Code,
 }
 
 fn name(alloc: Global, name: &str) -> Result<Text, AllocError> {
@@ -59,10 +62,138 @@ fn schema(alloc: Global) -> Result<Schema, AllocError> {
     Ok(Schema { tables })
 }
 
+fn checked(alloc: Global) -> Result<Checked, AllocError> {
+    Ok(Checked {
+        program: Source {
+            tables: Items::new(alloc),
+            classes: Items::new(alloc),
+            tokens: Items::new(alloc),
+        },
+        schema: schema(alloc)?,
+        facts: Facts {
+            nodes: Items::new(alloc),
+            classes: Items::new(alloc),
+            methods: Items::new(alloc),
+            operations: Items::new(alloc),
+            main: Main {
+                class: 0,
+                entries: entries(alloc)?,
+            },
+        },
+    })
+}
+
+// The fields f and g of Main, nodes 7 and 8.
+fn classes(alloc: Global) -> Result<Items<Class>, AllocError> {
+    let mut fields = Items::new(alloc);
+    for (title, node) in [("f", 7), ("g", 8)] {
+        fields.push(Field {
+            name: name(alloc, title)?,
+            ty: SlotTy::Int,
+            node,
+        })?;
+    }
+    let mut classes = Items::new(alloc);
+    classes.push(Class {
+        name: name(alloc, "Main")?,
+        fields,
+    })?;
+    Ok(classes)
+}
+
+fn print(node: u32) -> Tree {
+    Tree::Do {
+        node,
+        word: Word::Print(Operand::Literal(Value::Null)),
+    }
+}
+
+// A print, and an `if` with another.
+fn body_with_prints(alloc: Global) -> Result<Items<Tree>, AllocError> {
+    let mut yes = Items::new(alloc);
+    yes.push(print(4))?;
+    let mut body = Items::new(alloc);
+    body.push(print(2))?;
+    body.push(Tree::If {
+        node: 3,
+        test: Operand::Slot(0),
+        yes,
+        no: Items::new(alloc),
+    })?;
+    Ok(body)
+}
+
+fn body_that_returns(alloc: Global) -> Result<Items<Tree>, AllocError> {
+    let mut body = Items::new(alloc);
+    body.push(Tree::Do {
+        node: 6,
+        word: Word::Return(None),
+    })?;
+    Ok(body)
+}
+
+fn method(alloc: Global, title: &str, node: u32, body: Items<Tree>) -> Result<Method, AllocError> {
+    Ok(Method {
+        class: 0,
+        name: name(alloc, title)?,
+        node,
+        entry: false,
+        params: 0,
+        gives: None,
+        slots: Items::new(alloc),
+        body,
+    })
+}
+
+fn methods(alloc: Global) -> Result<Items<Method>, AllocError> {
+    let mut methods = Items::new(alloc);
+    methods.push(method(alloc, "m", 1, body_with_prints(alloc)?)?)?;
+    methods.push(method(alloc, "n", 5, body_that_returns(alloc)?)?)?;
+    Ok(methods)
+}
+
+// The kind of each node, its line and its method.
+const NODES: [(NodeKind, u32, Option<u16>); 9] = [
+    (NodeKind::Method, 3, Some(1)),
+    (NodeKind::Normal, 4, Some(1)),
+    (NodeKind::Normal, 5, Some(1)),
+    (NodeKind::Normal, 5, Some(1)),
+    (NodeKind::Method, 7, Some(2)),
+    (NodeKind::Normal, 8, Some(2)),
+    (NodeKind::Field, 2, None),
+    (NodeKind::Field, 2, None),
+    (NodeKind::Site, 5, Some(1)),
+];
+
+fn nodes(alloc: Global) -> Result<Items<Node>, AllocError> {
+    let mut nodes = Items::new(alloc);
+    for (kind, line, method) in NODES {
+        nodes.push(Node {
+            kind,
+            line,
+            method,
+            counter: None,
+        })?;
+    }
+    Ok(nodes)
+}
+
+fn code(alloc: Global) -> Result<Code, AllocError> {
+    Ok(Code {
+        main: 0,
+        classes: classes(alloc)?,
+        methods: methods(alloc)?,
+        sites: Items::new(alloc),
+        nodes: nodes(alloc)?,
+        schema: schema(alloc)?,
+        statements: Items::new(alloc),
+    })
+}
+
 fn small_program(alloc: Global) -> Result<Program, AllocError> {
     Ok(Program {
-        entries: entries(alloc)?,
-        schema: schema(alloc)?,
+        checked: checked(alloc)?,
+        code: code(alloc)?,
     })
 }
 
@@ -71,7 +202,8 @@ fn read(alloc: Global, text: &[u8], program: &Program) -> Result<Job, JobError> 
     if text.len() >= 1 << 31 {
         return Err(JobError::NoMemory);
     }
-    read_job(alloc, text, program.entries.as_slice(), &program.schema)
+    let schema = &program.checked.schema;
+    read_job(alloc, text, &program.checked, schema, &program.code)
 }
 
 fn fault(line: u32, code: JobCode) -> Option<JobError> {
@@ -271,15 +403,84 @@ const CALLS: [(u32, JobCode, &[u8]); 14] = [
     (1, JobCode::J12, b"call 1 $all 1 true 0"),
 ];
 
-const LATER: [(u32, JobCode, &[u8]); 8] = [
-    (3, JobCode::Later, b"frob\ncall 1 none\n part x"),
-    (3, JobCode::Later, b"#\xff\n# part\napp\nfrob"),
-    (3, JobCode::Later, b"\"part\"\n\tpart\ndb \xff"),
-    (1, JobCode::Later, b"part\r\n"),
-    (1, JobCode::Later, b"db all\npart"),
-    (1, JobCode::J1, b"part\tx"),
-    (1, JobCode::J1, b"part\xff"),
-    (1, JobCode::J1, b"app\rx\n"),
+const PARTS: [(u32, JobCode, &[u8]); 57] = [
+    (1, JobCode::J1, b"part"),
+    (1, JobCode::J1, b"part p"),
+    (1, JobCode::J1, b"part p upto"),
+    (1, JobCode::J1, b"part p upto x"),
+    (1, JobCode::J1, b"part p upto -1"),
+    (1, JobCode::J1, b"part p up 1000"),
+    (1, JobCode::J1, b"part 1 upto 1000"),
+    (1, JobCode::J1, b"part int upto 1000"),
+    (1, JobCode::J1, b"part p upto 1000 1"),
+    (1, JobCode::J1, b"part p upto 1000 budget"),
+    (1, JobCode::J1, b"part p upto 1000 budget x"),
+    (1, JobCode::J1, b"part p upto 1000 Budget 1"),
+    (1, JobCode::J1, b"part p upto 1000 budget 1 2"),
+    (1, JobCode::J1, b"part\tp upto 1000"),
+    (1, JobCode::J1, b"app"),
+    (1, JobCode::J1, b"app\rall\n"),
+    (1, JobCode::J1, b"db all 1"),
+    (1, JobCode::J1, b"db line"),
+    (1, JobCode::J1, b"db line x"),
+    (1, JobCode::J1, b"db lines 4"),
+    (1, JobCode::J1, b"db method Main"),
+    (1, JobCode::J1, b"db method Main."),
+    (1, JobCode::J1, b"db method Main.m.n"),
+    (1, JobCode::J1, b"db field Main.int"),
+    (2, JobCode::J3, b"part p upto 1\npart p upto 2000"),
+    (
+        3,
+        JobCode::J3,
+        b"part p upto 1\npart q upto 2\npart p upto 3",
+    ),
+    (2, JobCode::J3, b"part p upto 999\npart p upto 1"),
+    (1, JobCode::J4, b"part p upto 1001"),
+    (1, JobCode::J4, b"part p upto 18446744073709551617"),
+    (1, JobCode::J4, b"part p upto 999 budget 1000000000001"),
+    (2, JobCode::J4, b"part p upto 5\npart q upto 1001"),
+    (1, JobCode::J13, b"app all\npart p upto 1000"),
+    (1, JobCode::J13, b"db line 99"),
+    (1, JobCode::J13, b"db line 4"),
+    (2, JobCode::J14, b"part p upto 1000\ndb line 2"),
+    (2, JobCode::J14, b"part p upto 1000\napp line 3"),
+    (2, JobCode::J14, b"part p upto 1000\napp line 99"),
+    (
+        2,
+        JobCode::J14,
+        b"part p upto 1000\napp line 18446744073709551620",
+    ),
+    (2, JobCode::J14, b"part p upto 1000\napp method Main.x"),
+    (2, JobCode::J14, b"part p upto 1000\napp method x.m"),
+    (2, JobCode::J14, b"part p upto 1000\napp method Main.f"),
+    (2, JobCode::J14, b"part p upto 1000\napp field Main.m"),
+    (2, JobCode::J15, b"part p upto 1000\ndb line 4"),
+    (2, JobCode::J15, b"part p upto 1000\ndb line 05"),
+    (2, JobCode::J15, b"part p upto 1000 budget 1\ndb line 5"),
+    (
+        2,
+        JobCode::J16,
+        b"part p upto 5\npart q upto 5\npart r upto 1000",
+    ),
+    (2, JobCode::J16, b"part p upto 5\npart q upto 4"),
+    (2, JobCode::J16, b"part p upto 1000\npart q upto 1000"),
+    (1, JobCode::J17, b"part p upto 999"),
+    (1, JobCode::J17, b"part p upto 0 budget 1"),
+    (2, JobCode::J17, b"part p upto 5\npart q upto 6"),
+    (1, JobCode::J17, b"part p upto 5\npart q up 1000"),
+    (1, JobCode::J17, b"part p upto 5\n#part q upto 1000"),
+    (1, JobCode::J17, b"part p upto 5\npart q upto 1000\x80"),
+    (3, JobCode::J1, b"part p upto 5\npart q upto 1000\ndb frob"),
+    (
+        9,
+        JobCode::J20,
+        b"part a upto 1\npart b upto 2\npart c upto 3\npart d upto 4\npart e upto 5\npart f upto 6\npart g upto 7\npart h upto 8\npart i upto 1000",
+    ),
+    (
+        9,
+        JobCode::J17,
+        b"part a upto 1\npart b upto 2\npart c upto 3\npart d upto 4\npart e upto 5\npart f upto 6\npart g upto 7\npart h upto 8\npart i upto 9",
+    ),
 ];
 
 #[test]
@@ -313,7 +514,7 @@ fn faults_are_told(rt: HostRuntime) -> Result<(), Fail> {
     all_refused(&rt, alloc, &NUMBERS)?;
     all_refused(&rt, alloc, &ROWS)?;
     all_refused(&rt, alloc, &CALLS)?;
-    all_refused(&rt, alloc, &LATER)
+    all_refused(&rt, alloc, &PARTS)
 }
 
 // A text whose second piece stands so many times, and what is wrong with it.
@@ -525,6 +726,101 @@ fn jobs_hold_these_numbers(rt: HostRuntime) -> Result<(), Fail> {
     for (text, want) in HELD {
         let job = read(alloc, text, &program)?;
         assert_eq!(rt; numbers(alloc, &job)?.as_slice(), want, "{text:?}");
+    }
+    Ok(())
+}
+
+fn push_number(text: &mut Vec<u8>, number: u64) -> Result<(), AllocError> {
+    text.extend_from_slice(Buffer::new().format(number).as_bytes())
+}
+
+fn letter(side: Option<Side>) -> u8 {
+    match side {
+        None => b'-',
+        Some(Side::App) => b'A',
+        Some(Side::Db) => b'D',
+    }
+}
+
+// The parts of a job, each with its name, its load, its budget if it has one, and its sides.
+fn parts(alloc: Global, job: &Job) -> Result<Vec<u8>, AllocError> {
+    let mut text = Vec::new(alloc);
+    for part in job.parts.as_slice() {
+        text.extend_from_slice(part.name.as_slice())?;
+        text.push(b' ')?;
+        push_number(&mut text, part.upto as u64)?;
+        text.push(b' ')?;
+        if let Some(budget) = part.budget {
+            push_number(&mut text, budget)?;
+            text.push(b' ')?;
+        }
+        for side in part.sides.sides.as_slice() {
+            text.push(letter(*side))?;
+        }
+        text.push(b';')?;
+    }
+    Ok(text)
+}
+
+const SPLIT: [(&[u8], &[u8]); 9] = [
+    (b"", b"app 1000 AAAAAAAAA;"),
+    (b"part p upto 1000", b"p 1000 AAAAAAAAA;"),
+    (b"part p upto 1000\ndb all", b"p 1000 DADADDDDD;"),
+    (b"part p upto 1000\ndb method Main.m", b"p 1000 DADAAAAAD;"),
+    (
+        b"part p upto 1000\ndb all\napp method Main.n\napp line 5",
+        b"p 1000 DAAAAADDA;",
+    ),
+    (
+        b"part p upto 01000 budget 1000000000000\napp line 8\ndb line 008",
+        b"p 1000 1000000000000 -A-A-D---;",
+    ),
+    (
+        b"part p upto 1000 budget 0\ndb all\napp field Main.f",
+        b"p 1000 0 DADADDADD;",
+    ),
+    (
+        b"part a upto 0\ndb field Main.g\npart app upto 1000\ndb line 8\napp all\ndb field Main.f",
+        b"a 0 AAAAAAADA;app 1000 AAAAAADAA;",
+    ),
+    (
+        b"part a upto 1\npart b upto 2\npart c upto 3\npart d upto 4\npart e upto 5\npart f upto 6\npart g upto 7\npart h upto 1000",
+        b"a 1 AAAAAAAAA;b 2 AAAAAAAAA;c 3 AAAAAAAAA;d 4 AAAAAAAAA;e 5 AAAAAAAAA;f 6 AAAAAAAAA;g 7 AAAAAAAAA;h 1000 AAAAAAAAA;",
+    ),
+];
+
+#[test]
+fn jobs_have_these_parts(rt: HostRuntime) -> Result<(), Fail> {
+    let alloc = rt.alloc();
+    let program = small_program(alloc)?;
+    for (text, want) in SPLIT {
+        let job = read(alloc, text, &program)?;
+        assert_eq!(rt; parts(alloc, &job)?.as_slice(), want, "{text:?}");
+    }
+    Ok(())
+}
+
+const BEYOND: [(&[u8], Option<u32>); 9] = [
+    (b"", None),
+    (
+        b"workers 2\nsessions 01\n#order 1\ncall 1 none\nrow k 1\npart p upto 1000\ndb all",
+        None,
+    ),
+    (b"# a\nsessions 2", Some(2)),
+    (b"call 1 none\norder 1\nload 1 1", Some(2)),
+    (b"\nload 1 1", Some(2)),
+    (b"part p upto 1\npart q upto 1000", Some(2)),
+    (b"part p upto 1\ndb all\npart q upto 1000 budget 1", Some(3)),
+    (b"part p upto 1000 budget 0", Some(1)),
+    (b"row t \"order\"", None),
+];
+
+#[test]
+fn first_lines_are_found_that_two_ends_do_not_take(rt: HostRuntime) -> Result<(), Fail> {
+    for (text, want) in BEYOND {
+        if text.len() < 1 << 31 {
+            assert_eq!(rt; first_beyond(text), want, "{text:?}");
+        }
     }
     Ok(())
 }

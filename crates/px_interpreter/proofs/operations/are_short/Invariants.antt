@@ -1,5 +1,5 @@
 use Rattle.std.proofs.Common.{◌≡◌, ◌≤◌, drop}
-use Rattle.px_semantics.specs.Operations.{are_short, max_texts}
+use Rattle.px_effects.specs.Operations.{are_short, max_texts}
 use Rattle.px_interpreter.proofs.Sent.{short_from}
 use Rattle.px_interpreter.proofs.operations.are_short.Given as goal
 

@@ -1,0 +1,5 @@
+pub mod Run
+pub mod Act
+pub mod Cells
+pub mod Rows
+pub mod Operations

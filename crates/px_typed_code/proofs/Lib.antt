@@ -1,0 +1,11 @@
+pub mod Operators
+pub mod Counted
+pub mod Drafts
+pub mod Around
+pub mod Expressions
+pub mod Statements
+pub mod Bodies
+pub mod Skeleton
+pub mod Members
+pub mod Programs
+pub mod Order
