@@ -1,5 +1,4 @@
 //! What lowering promises of every program that the type rules accept.
 #![tactic(auto)]
 
-
 pub mod law;

@@ -219,11 +219,14 @@ module _ (P : Checked) (C : Code) (gives : Option Ty) where
       let x = operated P token had o in
       record {
         goes = a.goes;
-        had = (refl, record {
-          null = refl;
-          writes = λ more g v to e. (ty.Int, ty.Int, ty.Long, ty_more x.out.slots more x.operand ty.Int g (has_ty x.out.slots static.Int x.operand a.operand), refl, refl, e);
-          unused = λ more g v. never_so v;
-        });
+        had = (
+          refl,
+          record {
+            null = refl;
+            writes = λ more g v to e. (ty.Int, ty.Int, ty.Long, ty_more x.out.slots more x.operand ty.Int g (has_ty x.out.slots static.Int x.operand a.operand), refl, refl, e);
+            unused = λ more g v. never_so v;
+          },
+        );
       }
 
   widens : (id token : ℕ) (had : Had) (o : Draft) → HadFits o.slots static.Int had → Fine o static.Long (widened P id token had o)

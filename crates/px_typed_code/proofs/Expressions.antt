@@ -381,7 +381,7 @@ module _ (P : Checked) (C : Code) (gives : Option Ty) (code : IsCodeOf P.facts C
       let args : (before : Counter) (o : Draft) → Stands o → FineArgs o fact.params (arguments P types 0 before (map (part_of P) es) o) = λ before o s. takes types 0 before (subst (λ ts. AreWanted ts 0 fact.params) (sym known) (all_wanted [] fact.params)) (are_values fact.params (λ place t h. code.params number place fact t k h)) o s in
       subst (λ (n : Named). Means (type_at F x.id) (call_low P n (option_map (part_of P) of) (map (part_of P) es) x.id token)) (sym e)
       (subst (λ t. Means t (call_low P (named.Method number) (option_map (part_of P) of) (map (part_of P) es) x.id token)) q
-       (called_means types of es (static.Object fact.class) fact.params fact.result x.id token (λ a xs. step.Call a number xs) q receives args (λ slots a xs h w. call_step number fact slots a xs k h w)))
+      (called_means types of es (static.Object fact.class) fact.params fact.result x.id token (λ a xs. step.Call a number xs) q receives args (λ slots a xs h w. call_step number fact slots a xs k h w)))
 
   first_fits : (t : Static) (slots : List Ty) (xs : List Operand) → ArgsFit slots (t ∷ []) xs → OperandFits slots t (first_of xs)
   first_fits t slots [] h = absurd h
@@ -429,10 +429,10 @@ module _ (P : Checked) (C : Code) (gives : Option Ty) (code : IsCodeOf P.facts C
       let rows : is_query o.statement ≡ true = query_is o.statement ∙ code.queries x.id number site o e k in
       let args = taken o types es (ap operands_in k) sends takes in
       let fits : (slots : List Ty) (xs : List Operand) → ArgsFit slots o.params xs → StepFits P C gives slots static.ResultSet (step.Query number site xs) =
-          (λ slots xs w. step_fits slots static.ResultSet (step.Query number site xs) (record { void = refl; null = refl }) (λ more g to z. (o.statement, code.statements number o k, rows, there, args_sent more o.params xs sends (args_more slots more o.params xs g w), z))) in
+      (λ slots xs w. step_fits slots static.ResultSet (step.Query number site xs) (record { void = refl; null = refl }) (λ more g to z. (o.statement, code.statements number o k, rows, there, args_sent more o.params xs sends (args_more slots more o.params xs g w), z))) in
       subst (λ (m : Named). Means (type_at F x.id) (call_low P m (option_map (part_of P) of) (map (part_of P) (written ∷ es)) x.id token)) (sym e)
       (subst (λ t. Means t (call_low P n (option_map (part_of P) of) (map (part_of P) (written ∷ es)) x.id token)) (sym d)
-       (asked_means types es o.params static.ResultSet x.id token (λ xs. step.Query number site xs) (sym d) args fits))
+      (asked_means types es o.params static.ResultSet x.id token (λ xs. step.Query number site xs) (sym d) args fits))
 
   update_means : (x : Expr) (of : Option Expr) (written : Expr) (es : List Expr) (number : ℕ) (o : Operation) (token : ℕ) → named_at F x.id ≡ named.Update number → by_number F.operations number ≡ Some o → is_select o.statement ≡ false → type_at F x.id ≡ static.Int → AreSendable o.params → Takes o es
       → Means (type_at F x.id) (call_low P (named_at F x.id) (option_map (part_of P) of) (map (part_of P) (written ∷ es)) x.id token)
@@ -442,10 +442,10 @@ module _ (P : Checked) (C : Code) (gives : Option Ty) (code : IsCodeOf P.facts C
       let none : is_query o.statement ≡ false = query_is o.statement ∙ c in
       let args = taken o types es (ap operands_in k) sends takes in
       let fits : (slots : List Ty) (xs : List Operand) → ArgsFit slots o.params xs → StepFits P C gives slots static.Int (step.Update number xs) =
-          (λ slots xs w. step_fits slots static.Int (step.Update number xs) (record { void = refl; null = refl }) (λ more g to z. (o.statement, code.statements number o k, none, args_sent more o.params xs sends (args_more slots more o.params xs g w), z))) in
+      (λ slots xs w. step_fits slots static.Int (step.Update number xs) (record { void = refl; null = refl }) (λ more g to z. (o.statement, code.statements number o k, none, args_sent more o.params xs sends (args_more slots more o.params xs g w), z))) in
       subst (λ (m : Named). Means (type_at F x.id) (call_low P m (option_map (part_of P) of) (map (part_of P) (written ∷ es)) x.id token)) (sym e)
       (subst (λ t. Means t (call_low P n (option_map (part_of P) of) (map (part_of P) (written ∷ es)) x.id token)) (sym d)
-       (asked_means types es o.params static.Int x.id token (λ xs. step.Update number xs) (sym d) args fits))
+      (asked_means types es o.params static.Int x.id token (λ xs. step.Update number xs) (sym d) args fits))
 
   -- ---- bare numbers
 
@@ -512,16 +512,16 @@ module _ (P : Checked) (C : Code) (gives : Option Ty) (code : IsCodeOf P.facts C
     expression_means _ (typing.IsTypedExpr.indexed x of index t h e d s i) u =
         means_by x (type_at F x.id) _ (low_index P x of of index index h refl refl)
         (index_means x.id x.token t of index d (subst (λ w. Means w (says of)) e (expression_means of s (part x of u (uses.IsPart.array x of index h))))
-         (subst (λ w. Means w (says index)) ((asked x u).index of index h) (expression_means index i (part x index u (uses.IsPart.index x of index h)))))
+        (subst (λ w. Means w (says index)) ((asked x u).index of index h) (expression_means index i (part x index u (uses.IsPart.index x of index h)))))
     expression_means _ (typing.IsTypedExpr.call x of n args method fact h e k d r a) u =
         means_by x (type_at F x.id) _ (low_call P x of n args h)
         (method_means x of args method fact x.token e k d (receiver_means (static.Object fact.class) of r (λ y q. part x y u (uses.IsPart.receiver x y n args (h ∙ ap (λ z. Call z n args) q))) refl x.id)
-         (arguments_mean fact.params args a (λ place y q. part x y u (uses.IsPart.argument x y of n args place h q))))
+        (arguments_mean fact.params args a (λ place y q. part x y u (uses.IsPart.argument x y of n args place h q))))
     expression_means _ (typing.IsTypedExpr.library x of n args params h l s a) u =
         means_by x (type_at F x.id) _ (low_call P x (Some of) n args h)
         (library_means (named_at F x.id) (type_at F of.id) params (type_at F x.id) l of args x.id x.token refl
-         (λ o d. let b = operand_means of (type_at F of.id) (expression_means of s (part x of u (uses.IsPart.receiver x of n args h))) (library_void (named_at F x.id) (type_at F of.id) params (type_at F x.id) l) o d in record { goes = b.goes; operand = b.operand })
-         (arguments_mean params args a (λ place y q. part x y u (uses.IsPart.argument x y (Some of) n args place h q))))
+        (λ o d. let b = operand_means of (type_at F of.id) (expression_means of s (part x of u (uses.IsPart.receiver x of n args h))) (library_void (named_at F x.id) (type_at F of.id) params (type_at F x.id) l) o d in record { goes = b.goes; operand = b.operand })
+        (arguments_mean params args a (λ place y q. part x y u (uses.IsPart.argument x y (Some of) n args place h q))))
     expression_means _ (typing.IsTypedExpr.query x of n written args number site o h e k d p a) u =
         means_by x (type_at F x.id) _ (low_call P x of n (written ∷ args) h)
         (query_means x of written args number site o x.token e k d p ((arguments_mean o.params args a (λ place y q. part x y u (uses.IsPart.argument x y of n (written ∷ args) (suc place) h q)))))
@@ -535,11 +535,11 @@ module _ (P : Checked) (C : Code) (gives : Option Ty) (code : IsCodeOf P.facts C
     expression_means _ (typing.IsTypedExpr.prefix x y s h g k) u =
         means_by x (type_at F x.id) _ (low_prefix P x y y s h refl)
         (prefix_means (literal_behind s (number_of y)) (prefix_of s (type_at F y.id)) y (type_at F y.id) (type_at F x.id) x.id x.token refl g (prefix_joins_none s (type_at F y.id))
-         (λ v e slots. literal_fits s (number_of y) (type_at F y.id) (type_at F x.id) slots g (number_is y k) v e) (expression_means y k (part x y u (uses.IsPart.operand x y s h))))
+        (λ v e slots. literal_fits s (number_of y) (type_at F y.id) (type_at F x.id) slots g (number_is y k) v e) (expression_means y k (part x y u (uses.IsPart.operand x y s h))))
     expression_means _ (typing.IsTypedExpr.binary x l r s at h g a b) u =
         means_by x (type_at F x.id) _ (low_binary P x l r l r s at h refl refl)
         (binary_means s l r (type_at F l.id) (type_at F r.id) (type_at F x.id) x.id x.token refl (sign_is s (type_at F l.id) (type_at F r.id) (type_at F x.id) g) refl refl ((asked x u).choice s at l r h) ((asked x u).joined s at l r h)
-         (expression_means l a (part x l u (uses.IsPart.left x l r s at h))) (expression_means r b (part x r u (uses.IsPart.right x l r s at h))))
+        (expression_means l a (part x l u (uses.IsPart.left x l r s at h))) (expression_means r b (part x r u (uses.IsPart.right x l r s at h))))
 
     receiver_means : (t : Static) (of : Option Expr) → IsReceiver F locals t of → ((y : Expr) → of ≡ Some y → IsUsed F y) → is_void t ≡ false → (id : ℕ) (o : Draft) → Stands o → FineReceiving o t (received P false (option_map (part_of P) of) id o)
     receiver_means _ _ (typing.IsReceiver.own t e) u v id o s = record { goes = goes_none P C gives o; operand = slot_plain o.slots t 0 (values 0 t e) (s 0 t e) }

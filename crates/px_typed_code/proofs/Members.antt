@@ -19,7 +19,8 @@ use Rattle.px_normal.specs.First.{numbered}
 use Rattle.px_lowering.specs.declared.allocations.Allocation.{Allocation}
 use Rattle.px_lowering.specs.Types.{code_type}
 use Rattle.px_lowering.specs.Programs.{lowered_body, method_of, lowered_methods, field_node, field_of, lowered_fields, class_of, lowered_classes, site, site_node, Sites, with_site, lowered_sites}
-use Rattle.px_typed_code.specs.Laws.{fields_in, AreKnown, IsKnownKind}
+use Rattle.px_preservation.specs.Laws.{fields_in, AreKnown}
+use Rattle.px_typed_code.specs.Laws.{IsKnownKind}
 use Rattle.px_typed_code.proofs.Drafts.{Grows, grows_none, grows_append, last_get}
 
 -- a node of these has this number

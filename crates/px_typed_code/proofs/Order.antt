@@ -36,8 +36,8 @@ module _ (P : Checked) where
       let o = lowered_body P number m fact nodes in
       let first : IsCounted (length nodes + 1) ((length nodes + 1) ∷ all_nodes o.trees) (length o.nodes) = subst (λ i. IsCounted (length nodes + 1) ((length nodes + 1) ∷ all_nodes (lowered_body P i m fact nodes).trees) (length (lowered_body P i m fact nodes).nodes)) e (h 0 m fact refl refl nodes) in
       let rest = methods_counted (number + 1) ms facts o.nodes (λ place n f j k nodes.
-          let q : number + suc place ≡ number + 1 + place = omega arith in
-          subst (λ i. IsCounted (length nodes + 1) ((length nodes + 1) ∷ all_nodes (lowered_body P i n f nodes).trees) (length (lowered_body P i n f nodes).nodes)) q (h (suc place) n f j k nodes)) in
+      let q : number + suc place ≡ number + 1 + place = omega arith in
+      subst (λ i. IsCounted (length nodes + 1) ((length nodes + 1) ∷ all_nodes (lowered_body P i n f nodes).trees) (length (lowered_body P i n f nodes).nodes)) q (h (suc place) n f j k nodes)) in
       counted_then (length nodes + 1) (length o.nodes) _ _ _ first rest
 
   fields_counted : (ms : List Member) (types : List Static) (before : List Node) → IsCounted (length before + 1) (map nodes.field_node (lowered_fields P ms types before).fields) (length (lowered_fields P ms types before).nodes)

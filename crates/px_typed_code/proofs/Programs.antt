@@ -237,12 +237,12 @@ module _ (P : Checked) (source : IsTypedSource (source_from P)) (used : AreUsedW
         body = b.goes.trees o.slots (grows_none o.slots) (λ i x e. made_grows i x (r.2.grows i x e)) typed.AreTypedTrees.none;
         stops = b.stops;
         entry = λ e.
-          let f = entry_fact place m fact there.2 there.3 e in
-          record {
-            class = f.1;
-            params = subst (λ (ts : List Static). ArePlain (length ts) (map code_type ts ++ s.0)) (sym f.2) (params_plain f.0.params s.0);
-            result = subst (λ t. IsPlainResult (code_result t)) (sym f.3) (result_plain f.0.gives);
-          };
+            let f = entry_fact place m fact there.2 there.3 e in
+            record {
+              class = f.1;
+              params = subst (λ (ts : List Static). ArePlain (length ts) (map code_type ts ++ s.0)) (sym f.2) (params_plain f.0.params s.0);
+              result = subst (λ t. IsPlainResult (code_result t)) (sym f.3) (result_plain f.0.gives);
+            };
       } in
       subst (λ x. IsTypedMethod (lowered P) x) (sym same) mine
 

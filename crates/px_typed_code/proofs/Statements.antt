@@ -192,10 +192,12 @@ module _ (P : Checked) (C : Code) (code : IsCodeOf P.facts C) (locals : List Sta
       let v = fitted y t h plain.void k u z.out (stands o z.out s ab) in
       let p = fitted_operand P t (part_of P y) z.out in
       let word = w.Store x.operand z.operand p.operand in
-      then o z.out _ ab (then z.out p.out _ v.goes (emits P C gives word token (Completed y.id) p.out (λ slots g. (element_number e,
+      then o z.out _ ab (then z.out p.out _ v.goes (emits P C gives word token (Completed y.id) p.out (λ slots g. (
+        element_number e,
         ty_more p.out.slots slots x.operand _ g (ty_more z.out.slots p.out.slots x.operand _ v.goes.slots (ty_more x.out.slots z.out.slots x.operand _ b.goes.slots (has_ty x.out.slots (static.Array e) x.operand a.operand))),
         ty_more p.out.slots slots z.operand _ g (ty_more z.out.slots p.out.slots z.operand _ v.goes.slots (has_ty z.out.slots static.Int z.operand b.operand)),
-        subst (λ r. HasTy slots p.operand r) (ap code_type (sym q) ∙ sym (element_is e)) (ty_more p.out.slots slots p.operand (code_type t) g (has_ty p.out.slots t p.operand v.operand))))))
+        subst (λ r. HasTy slots p.operand r) (ap code_type (sym q) ∙ sym (element_is e)) (ty_more p.out.slots slots p.operand (code_type t) g (has_ty p.out.slots t p.operand v.operand)),
+      ))))
 
   -- ---- assignments
 
@@ -290,12 +292,12 @@ module _ (P : Checked) (C : Code) (code : IsCodeOf P.facts C) (locals : List Sta
         slots = λ place x e. gn.slots place x (gy.slots place x e);
         nodes = λ place x e. gn.nodes place x (gy.nodes place x (grows_append o1.nodes (m ∷ []) place x e));
         trees = λ slots ls ns ts. trees_next P C gives slots o1.trees _ ts (typed.IsTypedTree.branches (length o1.nodes + 1) a.operand y.trees n.trees refl
-          (node_is P C gives o1.nodes m (λ place x e. ns place x (gn.nodes place x (gy.nodes place x e))))
-          (ty_more o1.slots slots a.operand ty.Bool (λ place x e. ls place x (gn.slots place x (gy.slots place x e))) (has_ty o1.slots static.Boolean a.operand g.operand))
-          (gy.trees slots (λ place x e. ls place x (gn.slots place x e)) (λ place x e. ns place x (gn.nodes place x e)) typed.AreTypedTrees.none)
-          (gn.trees slots ls ns typed.AreTypedTrees.none));
+            (node_is P C gives o1.nodes m (λ place x e. ns place x (gn.nodes place x (gy.nodes place x e))))
+            (ty_more o1.slots slots a.operand ty.Bool (λ place x e. ls place x (gn.slots place x (gy.slots place x e))) (has_ty o1.slots static.Boolean a.operand g.operand))
+            (gy.trees slots (λ place x e. ls place x (gn.slots place x e)) (λ place x e. ns place x (gn.nodes place x e)) typed.AreTypedTrees.none)
+            (gn.trees slots ls ns typed.AreTypedTrees.none));
         order = λ first c. adds_node P C gives o1.trees (If (length o1.nodes + 1) a.operand y.trees n.trees) o1.nodes m (all_nodes y.trees ++ all_nodes n.trees) first (length n.nodes) c (nodes_if (length o1.nodes + 1) a.operand y.trees n.trees)
-          (counted_then (length o3.nodes + 1) (length y.nodes) (length n.nodes) (all_nodes y.trees) (all_nodes n.trees) (gy.order (length o3.nodes + 1) (counted_none (length o3.nodes))) (gn.order (length y.nodes + 1) (counted_none (length y.nodes))));
+            (counted_then (length o3.nodes + 1) (length y.nodes) (length n.nodes) (all_nodes y.trees) (all_nodes n.trees) (gy.order (length o3.nodes + 1) (counted_none (length o3.nodes))) (gn.order (length y.nodes + 1) (counted_none (length y.nodes))));
       } in
       then o o1 _ g.goes whole
 
@@ -325,14 +327,14 @@ module _ (P : Checked) (C : Code) (code : IsCodeOf P.facts C) (locals : List Sta
         slots = λ place x e. gb.slots place x (g.goes.slots place x e);
         nodes = λ place x e. gb.nodes place x (grows_append o1.nodes (m ∷ []) place x (g.goes.nodes place x e));
         trees = λ slots ls ns ts. trees_next P C gives slots o.trees _ ts (typed.IsTypedTree.loops o1.trees (length o1.nodes + 1) a.operand b.trees refl
-          (node_is P C gives o1.nodes m (λ place x e. ns place x (gb.nodes place x e)))
-          (ty_more o1.slots slots a.operand ty.Bool (λ place x e. ls place x (gb.slots place x e)) (has_ty o1.slots static.Boolean a.operand g.operand))
-          (g.goes.trees slots (λ place x e. ls place x (gb.slots place x e)) (λ place x e. ns place x (gb.nodes place x (grows_append o1.nodes (m ∷ []) place x e))) typed.AreTypedTrees.none)
-          (gb.trees slots ls ns typed.AreTypedTrees.none));
+            (node_is P C gives o1.nodes m (λ place x e. ns place x (gb.nodes place x e)))
+            (ty_more o1.slots slots a.operand ty.Bool (λ place x e. ls place x (gb.slots place x e)) (has_ty o1.slots static.Boolean a.operand g.operand))
+            (g.goes.trees slots (λ place x e. ls place x (gb.slots place x e)) (λ place x e. ns place x (gb.nodes place x (grows_append o1.nodes (m ∷ []) place x e))) typed.AreTypedTrees.none)
+            (gb.trees slots ls ns typed.AreTypedTrees.none));
         order = λ first c. counted_by first (length b.nodes) _ _ (all_next o.trees (Loop o1.trees (length o1.nodes + 1) a.operand b.trees) ∙ ap (λ (ks : List ℕ). all_nodes o.trees ++ ks) (nodes_loop o1.trees (length o1.nodes + 1) a.operand b.trees))
-          (counted_then first (length o.nodes) (length b.nodes) (all_nodes o.trees) _ c
+            (counted_then first (length o.nodes) (length b.nodes) (all_nodes o.trees) _ c
             (counted_then (length o.nodes + 1) (length o1.nodes) (length b.nodes) (all_nodes o1.trees) _ (g.goes.order (length o.nodes + 1) (counted_none (length o.nodes)))
-              (counted_first (length o1.nodes) (length o3.nodes) (length b.nodes) (all_nodes b.trees) (length-append o1.nodes (m ∷ [])) (gb.order (length o3.nodes + 1) (counted_none (length o3.nodes))))));
+            (counted_first (length o1.nodes) (length o3.nodes) (length b.nodes) (all_nodes b.trees) (length-append o1.nodes (m ∷ [])) (gb.order (length o3.nodes + 1) (counted_none (length o3.nodes))))));
       }
 
   -- ---- returns and prints
@@ -391,13 +393,13 @@ module _ (P : Checked) (C : Code) (code : IsCodeOf P.facts C) (locals : List Sta
         (goes_on _ (loop_goes test (low_stmt P result body) x.token ((asks x u).while_test test body h) e (holds x test u (uses.IsIn.while_test x test body h)) (statement_fine c body i (inner x body u (uses.IsInner.while_body x body test h))).goes))
     statement_fine _ _ (typing.IsTypedStmt.for_loop x begin test last body b c d h i e j k) u = fine_by _ true _ _ (completes_at x (g.For begin test last body) (h ∙ sym (st.rolls-For begin test last body))) (low_for P result x begin begin test last last body body h refl refl refl)
         (let first = statement_fine b begin i (inner x begin u (uses.IsInner.begin x begin test last body h)) in
-         let after = statement_fine c last j (inner x last u (uses.IsInner.last x last begin test body h)) in
-         let inside = statement_fine d body k (inner x body u (uses.IsInner.for_body x body begin test last h)) in
-         goes_on _ (λ o s.
-           let g = first.goes o s in
-           let o1 = low_stmt P result begin o in
-           then o o1 _ g (loop_goes test (λ o. low_stmt P result last (low_stmt P result body o)) x.token ((asks x u).for_test test begin last body h) e (holds x test u (uses.IsIn.for_test x test begin last body h))
-             (λ p q. let m = inside.goes p q in then p (low_stmt P result body p) _ m (after.goes (low_stmt P result body p) (stands p (low_stmt P result body p) q m))) o1 (stands o o1 s g))))
+        let after = statement_fine c last j (inner x last u (uses.IsInner.last x last begin test body h)) in
+        let inside = statement_fine d body k (inner x body u (uses.IsInner.for_body x body begin test last h)) in
+        goes_on _ (λ o s.
+        let g = first.goes o s in
+        let o1 = low_stmt P result begin o in
+        then o o1 _ g (loop_goes test (λ o. low_stmt P result last (low_stmt P result body o)) x.token ((asks x u).for_test test begin last body h) e (holds x test u (uses.IsIn.for_test x test begin last body h))
+        (λ p q. let m = inside.goes p q in then p (low_stmt P result body p) _ m (after.goes (low_stmt P result body p) (stands p (low_stmt P result body p) q m))) o1 (stands o o1 s g))))
     statement_fine _ _ (typing.IsTypedStmt.leave x h e) u = fine_by _ false _ _ (completes_return x None h) (low_return P result x None h) (left x.id x.token e)
     statement_fine _ _ (typing.IsTypedStmt.give x y h k e) u = fine_by _ false _ _ (completes_return x (Some y) h) (low_return P result x (Some y) h) (returned y x.id x.token k ((asks x u).result y h) e (holds x y u (uses.IsIn.result x y h)))
     statement_fine _ _ (typing.IsTypedStmt.print x y h e) u = fine_by _ true _ _ (completes_at x (g.Print y) (h ∙ sym (st.rolls-Print y))) (low_print P result x y h) (goes_on _ (λ o s. prints y x.token ((asks x u).printed y h) e (holds x y u (uses.IsIn.print x y h)) o s))

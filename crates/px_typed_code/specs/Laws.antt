@@ -3,11 +3,7 @@ use Rattle.std.specs.Prelude.{◌≡◌, ℕ, suc, true, List, [], ◌∷◌, le
 use Rattle.px_value.specs.declared.header.Kind.{Kind}
 use Rattle.px_value.specs.declared.header.Kind.TheVariants as kind
 use Rattle.px_value.specs.declared.ty.Ty.{Ty as Outer}
-use Rattle.px_tree.specs.declared.Class.{Class}
-use Rattle.px_tree.specs.declared.Member.{Member}
-use Rattle.px_tree.specs.declared.Member.TheVariants as member
 use Rattle.px_tree.specs.declared.Method.{Method}
-use Rattle.px_tree.specs.declared.FieldDecl.{FieldDecl}
 use Rattle.px_facts.specs.declared.types.Ty.{Ty}
 use Rattle.px_facts.specs.declared.checked.Checked.{Checked}
 use Rattle.px_facts.specs.declared.checked.Facts.{Facts}
@@ -30,21 +26,8 @@ use Rattle.px_lowering.specs.declared.allocations.Allocation.{Allocation}
 use Rattle.px_lowering.specs.Allocations.{kind_of}
 use Rattle.px_lowering.specs.Programs.{allocations, is_public, is_entry, lowered}
 use Rattle.px_lowering.specs.Types.{code_type}
+use Rattle.px_preservation.specs.Laws.{AreKnown}
 use Rattle.px_typed_code.specs.Uses.{is_value, is_result, AreUsed}
-
--- ---- classes
-
--- the fields among members
-abbrev pub fields_in : List Member → List FieldDecl
-fields_in [] = []
-fields_in (member.Field f ∷ ms) = f ∷ fields_in ms
-fields_in (member.Method m ∷ ms) = fields_in ms
-
--- each class is known, with as many fields as it declares
-abbrev pub AreKnown : List Class → List ClassFact → Type 0
-AreKnown [] [] = Unit {0}
-AreKnown (c ∷ cs) (fact ∷ facts) = (length (fields_in c.members) ≡ length fact.fields) × AreKnown cs facts
-AreKnown _ _ = ⊥
 
 -- ---- sites
 

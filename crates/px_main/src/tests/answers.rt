@@ -82,7 +82,13 @@ const PROGRAM_REFUSED: [Case; 6] = [
 
 const JOB_REFUSED: [Case; 11] = [
     ("a row of no table", PROGRAM, "row t 1", 6, "job 1 J6\n"),
-    ("a part", PROGRAM, "part p upto 1000", 6, "job 1 Later\n"),
+    (
+        "a part for less than the full load",
+        PROGRAM,
+        "part p upto 999",
+        6,
+        "job 1 J17\n",
+    ),
     (
         "an unknown entry",
         PROGRAM,

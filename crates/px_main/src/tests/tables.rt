@@ -249,11 +249,11 @@ const JOBS: [Case; 9] = [
         "job 1 J4\n",
     ),
     (
-        "a part before all else",
+        "a fault before a side line's",
         PAIRS,
-        "frob\npart p upto 1000\n",
+        "frob\ndb all\n",
         6,
-        "job 2 Later\n",
+        "job 1 J1\n",
     ),
 ];
 

@@ -1,0 +1,10 @@
+pub mod Sides
+pub mod Rules
+pub mod Has
+pub mod Plan
+pub mod Machine
+pub mod Message
+pub mod One
+pub mod Law
+pub mod Cutter
+pub mod Seen

@@ -1,0 +1,6 @@
+mod Elements
+mod Marks
+mod Adding
+mod Following
+mod Solving
+mod Rising

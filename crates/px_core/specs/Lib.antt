@@ -1,0 +1,4 @@
+pub mod Events
+pub mod Sound
+pub mod Stamped
+pub mod Told

@@ -1,0 +1,5 @@
+//! What cores tell their sessions, by hand.
+#![tactic(auto)]
+
+#[cfg(test)]
+mod sessions;

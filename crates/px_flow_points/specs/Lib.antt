@@ -1,0 +1,10 @@
+pub mod Statements
+pub mod Points
+pub mod Places
+pub mod There
+pub mod Numbers
+pub mod Constraints
+pub mod Laws
+pub mod Exact
+pub mod Touched
+pub mod TypedPoints

@@ -1,0 +1,13 @@
+//! Points-to: which objects the references in a slot or a part may lead to. (This crate takes the name px_points when the older one goes.)
+#![tactic(auto)]
+
+mod collect;
+pub mod law;
+mod numbers;
+mod part;
+mod points;
+mod touched;
+
+pub use part::Part;
+pub use points::{Points, points_to};
+pub use touched::part_of;

@@ -1,0 +1,6 @@
+mod Lists
+mod Heaps
+mod Acts
+mod Words
+mod Stay
+mod First

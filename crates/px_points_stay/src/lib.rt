@@ -1,0 +1,4 @@
+//! Runs of typed code stay within points-to.
+#![tactic(auto)]
+
+pub mod law;
