@@ -1,4 +1,4 @@
-"""Writes programs that grow, for main.rt beside this file, into a folder: programs.py FOLDER"""
+"""Writes programs that grow, for main.rt.txt beside this file, into a folder: programs.py FOLDER"""
 import os
 import sys
 

@@ -1,5 +1,5 @@
 #!/usr/bin/env bash
-# Builds main.rt unproved, in a scratch copy of the repository, and prints for each program: nodes, microseconds to judge, and to lower.
+# Builds main.rt.txt unproved, in a scratch copy of the repository, and prints for each program: nodes, microseconds to judge, and to lower.
 # The program that `rt try` builds checks every address, and is some twenty times slower than one that was proved: compare, don't quote.
 set -e
 here="$(cd "$(dirname "$0")" && pwd)"
@@ -9,7 +9,7 @@ trap 'rm -rf "$scratch"' EXIT
 cp -r "$root/crates" "$root/crates.txt" "$root/HANDLES" "$scratch"
 mkdir -p "$scratch/programs" "$scratch/crates/px_bench/src" "$scratch/crates/px_bench/specs" "$scratch/crates/px_bench/proofs"
 python3 "$here/programs.py" "$scratch/programs"
-cp "$here/main.rt" "$scratch/crates/px_bench/src/main.rt"
+cp "$here/main.rt.txt" "$scratch/crates/px_bench/src/main.rt"
 touch "$scratch/crates/px_bench/specs/Lib.antt" "$scratch/crates/px_bench/proofs/Lib.antt"
 line="$(grep '^px_lowering_cases:' "$root/crates.txt")"
 echo "px_bench: px_outside ${line#*: }" >> "$scratch/crates.txt"
