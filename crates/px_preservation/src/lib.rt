@@ -1,0 +1,2 @@
+//! Lowering preserves the meaning of a program.
+#![tactic(auto)]

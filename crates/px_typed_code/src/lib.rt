@@ -1,0 +1,2 @@
+//! The code of an accepted program is typed.
+#![tactic(auto)]
