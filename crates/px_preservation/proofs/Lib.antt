@@ -1,3 +1,4 @@
 pub mod Meets
 pub mod Agree
 pub mod Program
+pub mod Runs
