@@ -89,6 +89,12 @@ IsHadBelow high (Held a) = IsBelow high a
 IsHadBelow high (Chosen slot) = slot < high
 IsHadBelow high (Made s t counter) = IsStepBelow high s
 
+-- a temporary that may be written again is none of those that were there before
+abbrev pub IsHadAbove : ℕ → Had → Type 0
+IsHadAbove low (Held a) = Unit {0}
+IsHadAbove low (Chosen slot) = low ≤ slot
+IsHadAbove low (Made s t counter) = Unit {0}
+
 -- the last statement of an expression: it writes a slot, or it is a call whose result isn't used
 pub data Finishes : Step → Option ℕ → Word → Type 0 where
   into : (s : Step) (to : ℕ) → Finishes s (Some to) (writes s to)
@@ -127,6 +133,7 @@ module _ (Q W : Type 0) (ask : Ask Q W) (P : Checked) (code : Code) (source_call
     pub slots_are : l.out.slots ≡ o.slots ++ temps
     pub method_is : l.out.method ≡ o.method
     pub below : IsHadBelow (length l.out.slots) l.value.had
+    pub above : IsHadAbove (length o.slots) l.value.had
     pub meets : HadMeets (length o.slots) (length l.out.slots) r trees l.value.had
 
   abbrev pub Lowers : Expr → Type 0

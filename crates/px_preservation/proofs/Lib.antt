@@ -1,4 +1,5 @@
 pub mod Meets
 pub mod Agree
+pub mod Operands
 pub mod Program
 pub mod Runs
