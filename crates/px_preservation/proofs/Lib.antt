@@ -3,3 +3,4 @@ pub mod Agree
 pub mod Operands
 pub mod Program
 pub mod Runs
+pub mod SourceForms
