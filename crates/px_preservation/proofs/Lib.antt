@@ -4,3 +4,4 @@ pub mod Operands
 pub mod Program
 pub mod Runs
 pub mod SourceForms
+pub mod Frames
