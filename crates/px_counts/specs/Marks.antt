@@ -1,6 +1,6 @@
 -- What is noted of a run: the parts of the program that were begun and completed, in order.
-use Rattle.std.specs.Prelude.{ℕ, ◌+◌, nat_eq, Bool, true, false, List, [], ◌∷◌, ◌++◌, if◌then◌else◌}
-use Rattle.px_value.specs.Outcome.{Outcome, Gives, Throws, Asks, ◌>>=◌, pure, on_shared}
+use Rattle.std.specs.Prelude.{ℕ, ◌+◌, nat_eq, Bool, false, List, [], ◌∷◌, ◌++◌, if◌then◌else◌}
+use Rattle.px_value.specs.Outcome.{Outcome, Gives, Throws, Asks, on_shared}
 use Rattle.px_effects.specs.Run.{Shared, There, Ask}
 use Rattle.px_semantics.specs.Run.{Here}
 
