@@ -1,5 +1,8 @@
 pub mod Meets
 pub mod Agree
+pub mod Slots
+pub mod Afters
+pub mod Acts
 pub mod Operands
 pub mod Program
 pub mod Runs
