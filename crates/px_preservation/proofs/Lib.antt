@@ -8,3 +8,5 @@ pub mod Program
 pub mod Runs
 pub mod SourceForms
 pub mod Frames
+pub mod Slots
+pub mod Sequences
