@@ -3,6 +3,7 @@ pub mod Agree
 pub mod Slots
 pub mod Afters
 pub mod Acts
+pub mod Words
 pub mod Operands
 pub mod Program
 pub mod Runs
