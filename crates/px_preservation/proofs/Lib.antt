@@ -9,5 +9,4 @@ pub mod Program
 pub mod Runs
 pub mod SourceForms
 pub mod Frames
-pub mod Slots
 pub mod Sequences
