@@ -10,3 +10,4 @@ pub mod Runs
 pub mod SourceForms
 pub mod Frames
 pub mod Sequences
+pub mod Assignments
