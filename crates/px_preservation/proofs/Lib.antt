@@ -11,3 +11,4 @@ pub mod SourceForms
 pub mod Frames
 pub mod Sequences
 pub mod Assignments
+pub mod Locals
