@@ -1,5 +1,5 @@
--- Frames as expressions go on.
-use Rattle.std.proofs.Common.{◌≡◌, ℕ, ◌<◌, ◌≤◌, List, [], ◌∷◌, length, Option, Some, None, slice_get, unwrap_or, refl, sym, ap, ◌∙◌, arith}
+-- Drafts and frames as expressions go on.
+use Rattle.std.proofs.Common.{◌≡◌, ℕ, ◌+◌, ◌<◌, ◌≤◌, List, [], ◌∷◌, ◌++◌, append_assoc, length, length-append, Option, Some, None, slice_get, unwrap_or, refl, sym, ap, ◌∙◌, arith}
 use Rattle.px_value.specs.declared.value.Value.{Value}
 use Rattle.px_value.specs.declared.value.Value.TheVariants.{Null}
 use Rattle.px_semantics.specs.Run.{Frame as SourceFrame}
@@ -9,6 +9,19 @@ use Rattle.px_normal.specs.Run.{Frame}
 use Rattle.px_normal.specs.Words.{operand, operands, with_slot}
 use Rattle.px_preservation.proofs.Slots.{set_length, set_other, set_here}
 use Rattle.px_preservation.proofs.Agree.{Agree, Shares, After, Wrote, IsBelow, AreBelow}
+
+-- ---- drafts
+
+pub behind : {A : Type 0} (a b c x y : List A) → b ≡ a ++ x → c ≡ b ++ y → c ≡ a ++ (x ++ y)
+behind a b c x y h k = k ∙ ap (λ l. l ++ y) h ∙ append_assoc a x y
+
+pub grown : {A : Type 0} (a b x : List A) → b ≡ a ++ x → length a ≤ length b
+grown {A = A} a b x h = let e : length b ≡ length a + length x = ap (λ (l : List A). length l) h ∙ length-append a x in omega (arith, e)
+
+pub one_more : {A : Type 0} (a : List A) (x : A) → length a < length (a ++ x ∷ [])
+one_more a x = let e = length-append a (x ∷ []) in omega (arith, e)
+
+-- ---- frames
 
 module _ (W : Type 0) where
   pub after_none : (low : ℕ) (s : SourceFrame W) (c : Frame W) → Shares W s c → After W low s s c c

@@ -5,6 +5,7 @@ pub mod Afters
 pub mod Acts
 pub mod Words
 pub mod Operands
+pub mod Fitted
 pub mod Program
 pub mod Runs
 pub mod SourceForms

@@ -28,7 +28,7 @@ use Rattle.px_lowering.specs.Emit.{Lasted, Operated, emitted, writes, operated, 
 use Rattle.px_lowering.specs.Statements.{without_result, unused as unused_low}
 use Rattle.px_preservation.proofs.Meets.{Meets, meets_at, meets_bind, meets_more, meets_tail}
 use Rattle.px_preservation.proofs.Runs.{run_append}
-use Rattle.px_preservation.proofs.Afters.{after_none, after_then, agree_after, wrote_slot, wrote_above, wrote_none}
+use Rattle.px_preservation.proofs.Afters.{behind, grown, one_more, after_none, after_then, agree_after, wrote_slot, wrote_above, wrote_none}
 use Rattle.px_preservation.proofs.Words.{word_meets, step_source, step_ends}
 use Rattle.px_preservation.proofs.Agree.{Agree, After, Wrote, Shares, Finishes, into, unused, IsBelow, IsStepBelow, IsHadBelow, CallsMeet, ComesTo, Ends, HadMeets, IsLowered}
 
@@ -68,17 +68,6 @@ module _ (Q W : Type 0) (ask : Ask Q W) (P : Checked) (code : Code) (source_call
 
   abbrev Lowered : SourceHere Q W Value → Draft → Lasted → Type 0
   Lowered = IsLowered Q W ask P code source_calls calls n
-
-  -- ---- drafts
-
-  pub behind : {A : Type 0} (a b c x y : List A) → b ≡ a ++ x → c ≡ b ++ y → c ≡ a ++ (x ++ y)
-  behind a b c x y h k = k ∙ ap (λ l. l ++ y) h ∙ append_assoc a x y
-
-  pub grown : {A : Type 0} (a b x : List A) → b ≡ a ++ x → length a ≤ length b
-  grown a b x h = let e : length b ≡ length a + length x = ap (λ l. length l) h ∙ length-append a x in omega (arith, e)
-
-  one_more : {A : Type 0} (a : List A) (x : A) → length a < length (a ++ x ∷ [])
-  one_more a x = let e = length-append a (x ∷ []) in omega (arith, e)
 
   -- ---- an operand, and then the rest
 
