@@ -13,3 +13,4 @@ pub mod Frames
 pub mod Sequences
 pub mod Assignments
 pub mod Locals
+pub mod Loops
