@@ -1,3 +1,6 @@
 pub mod Counts
 pub mod Keeps
 pub mod Steps
+pub mod Pieces
+pub mod Shares
+pub mod Operands
