@@ -4,3 +4,4 @@ pub mod Steps
 pub mod Pieces
 pub mod Shares
 pub mod Operands
+pub mod Values
