@@ -6,6 +6,7 @@ pub mod Acts
 pub mod Words
 pub mod Operands
 pub mod Fitted
+pub mod Choices
 pub mod Program
 pub mod Runs
 pub mod SourceForms

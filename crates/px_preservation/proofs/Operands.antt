@@ -89,7 +89,7 @@ module _ (Q W : Type 0) (ask : Ask Q W) (P : Checked) (code : Code) (source_call
   -- ---- from what is lowered
 
   -- its last statement, with a slot or without
-  ended : (r : SourceHere Q W Value) (low high : ℕ) (ts : List Tree) (x : Step) → Ends Q W ask P code source_calls calls n low high r ts x → (node k : ℕ) → low ≤ k → (s : SourceFrame W) (c : Frame W) → Agree W n s c → high ≤ length c.locals → k < length c.locals → Meets (r s) (run (ts ++ Do node (writes x k) ∷ []) c) (λ v s' f c'. (f ≡ Goes) × After W low s s' c c' × (operand c'.locals (Slot k) ≡ v)) (Shares W)
+  pub ended : (r : SourceHere Q W Value) (low high : ℕ) (ts : List Tree) (x : Step) → Ends Q W ask P code source_calls calls n low high r ts x → (node k : ℕ) → low ≤ k → (s : SourceFrame W) (c : Frame W) → Agree W n s c → high ≤ length c.locals → k < length c.locals → Meets (r s) (run (ts ++ Do node (writes x k) ∷ []) c) (λ v s' f c'. (f ≡ Goes) × After W low s s' c c' × (operand c'.locals (Slot k) ≡ v)) (Shares W)
   ended r low high ts x m node k l s c ag h b =
       meets_more (r s) (run (ts ++ Do node (writes x k) ∷ []) c) (λ v s' f c'. (f ≡ Goes) × Wrote W low (Some k) v s s' c c') (Shares W) (λ v s' f c'. (f ≡ Goes) × After W low s s' c c' × (operand c'.locals (Slot k) ≡ v)) (Shares W) (m node (Some k) (writes x k) (into x k) s c ag h)
       (λ v s' f c' q. (q.0, wrote_above W low k v s s' c c' l q.1, ap (λ (u : Option Value). unwrap_or u Null) (q.1.written k refl b)))
