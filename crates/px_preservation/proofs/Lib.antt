@@ -7,6 +7,8 @@ pub mod Words
 pub mod Operands
 pub mod Fitted
 pub mod Choices
+pub mod Parts
+pub mod Arguments
 pub mod Program
 pub mod Runs
 pub mod SourceForms
