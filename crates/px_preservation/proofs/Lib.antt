@@ -17,3 +17,5 @@ pub mod Sequences
 pub mod Assignments
 pub mod Locals
 pub mod Loops
+pub mod Places
+pub mod Statements
