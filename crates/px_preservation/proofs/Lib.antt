@@ -19,3 +19,4 @@ pub mod Locals
 pub mod Loops
 pub mod Places
 pub mod Statements
+pub mod Whole
