@@ -9,6 +9,7 @@ pub mod Fitted
 pub mod Choices
 pub mod Parts
 pub mod Arguments
+pub mod Invoked
 pub mod Program
 pub mod Runs
 pub mod SourceForms
