@@ -1,26 +1,21 @@
 -- What assigns, prints, or does something else for its effect alone.
-use Rattle.std.proofs.Common.{◌≡◌, ℕ, zero, suc, ◌+◌, ◌<◌, ◌≤◌, ◌⊎◌, Bool, false, List, [], ◌∷◌, ◌++◌, length, Option, Some, None, unwrap_or, slice_get, slice_set, Ok, Err, refl, sym, ap, ◌∙◌, subst, arith, inl, inr, append-nil, le_of_eq, le_trans, lt_of_lt_of_le}
+use Rattle.std.proofs.Common.{◌≡◌, ℕ, zero, suc, ◌+◌, ◌<◌, ◌≤◌, ◌⊎◌, false, List, [], ◌∷◌, ◌++◌, length, Option, Some, None, unwrap_or, slice_get, slice_set, refl, sym, ap, ◌∙◌, subst, arith, inl, inr, append-nil, le_of_eq, le_trans, lt_of_lt_of_le}
 use Rattle.std.proofs.lemmas.Option.{slice_get_within}
 use Rattle.px_value.specs.declared.value.Value.{Value}
 use Rattle.px_value.specs.declared.value.Value.TheVariants.{Null}
-use Rattle.px_value.specs.declared.op.Op.{Op}
-use Rattle.px_value.specs.Operators.{Applied, apply}
-use Rattle.px_value.specs.Outcome.{Outcome, Gives, Throws, Asks, Run, then_run, ◌>>=◌, pure, beside, on_shared, Flow, Goes, Returns, goes_on}
+use Rattle.px_value.specs.Outcome.{Outcome, Gives, Throws, Asks, Run, then_run, ◌>>=◌, pure, beside, on_shared, Flow, Goes}
 use Rattle.px_facts.specs.declared.checked.Checked.{Checked}
-use Rattle.px_facts.specs.declared.checked.Named.{Named}
-use Rattle.px_facts.specs.declared.checked.Named.TheVariants as named
-use Rattle.px_effects.specs.Run.{Shared, Ask, came_to}
-use Rattle.px_effects.specs.Act.{Act, Comes, does}
+use Rattle.px_effects.specs.Run.{Ask}
+use Rattle.px_effects.specs.Act.{Act, does}
 use Rattle.px_effects.specs.Cells as cells
 use Rattle.px_effects.specs.Cells.{first_cells}
 use Rattle.px_effects.specs.Operations.{Acts}
 use Rattle.px_semantics.specs.Run.{Frame as SourceFrame, Here as SourceHere, with_slots}
 use Rattle.px_semantics.specs.Effects.{no_object, only_acts, put_field, store, print_line}
-use Rattle.px_semantics.specs.Expressions.{Calls as SourceCalls, this_value, slot_value, assign_slot}
-use Rattle.px_semantics.specs.Statements.{goes, change_local}
+use Rattle.px_semantics.specs.Expressions.{Calls as SourceCalls, this_value}
+use Rattle.px_semantics.specs.Statements.{goes}
 use Rattle.px_normal.specs.declared.ty.Ty.{Ty}
-use Rattle.px_normal.specs.declared.word.Operand.{Operand}
-use Rattle.px_normal.specs.declared.word.Operand.TheVariants.{Slot, Literal}
+use Rattle.px_normal.specs.declared.word.Operand.TheVariants.{Slot}
 use Rattle.px_normal.specs.declared.word.Word.{Word}
 use Rattle.px_normal.specs.declared.word.Word.TheVariants as w
 use Rattle.px_normal.specs.declared.node.Counter.{Counter}
@@ -30,17 +25,17 @@ use Rattle.px_normal.specs.declared.code.Code.{Code}
 use Rattle.px_normal.specs.First.{fresh_of}
 use Rattle.px_normal.specs.Run.{Frame}
 use Rattle.px_normal.specs.Words.{Does, Works, does_of, operand, to_of, with_slot, is_return, result_of}
-use Rattle.px_normal.specs.CodeRun.{Calls, flow_if, act_run, does_run, word_run, body_run}
+use Rattle.px_normal.specs.CodeRun.{Calls, flow_if, act_run, does_run, body_run}
 use Rattle.px_lowering.specs.declared.draft.Draft.{Draft}
 use Rattle.px_lowering.specs.Emit.{Operated, emitted}
-use Rattle.px_preservation.proofs.Meets.{Meets, meets_at, meets_more, meets_source}
-use Rattle.px_preservation.proofs.Agree.{Agree, After, Wrote, Shares, IsBelow, IsDone}
-use Rattle.px_preservation.proofs.Slots.{set_length, set_other, set_here}
+use Rattle.px_preservation.proofs.Meets.{Meets, meets_at, meets_source}
+use Rattle.px_preservation.proofs.Agree.{Agree, Shares, IsDone}
+use Rattle.px_preservation.proofs.Slots.{set_other, set_here}
 use Rattle.px_preservation.proofs.Acts.{does_same, Plain, plain_put, plain_store}
 use Rattle.px_preservation.proofs.Words.{act_meets}
-use Rattle.px_preservation.proofs.Operands.{IsOperand, IsSlotted}
+use Rattle.px_preservation.proofs.Operands.{IsOperand}
 use Rattle.px_preservation.proofs.Runs.{run_do, run_one}
-use Rattle.px_preservation.proofs.Sequences.{agree_after, operand_kept, below_more, grows, joined, Done, runs, then_operand}
+use Rattle.px_preservation.proofs.Sequences.{agree_after, operand_kept, below_more, grows, joined, Done, then_operand}
 
 -- ---- a local is written
 

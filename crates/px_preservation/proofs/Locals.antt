@@ -1,10 +1,10 @@
 -- What writes a local.
-use Rattle.std.proofs.Common.{◌≡◌, ℕ, ◌+◌, ◌<◌, ◌≤◌, List, [], ◌∷◌, ◌++◌, length, Option, Some, None, unwrap_or, slice_get, slice_set, Ok, Err, refl, sym, ap, ◌∙◌, append-nil, le_of_eq, le_trans, lt_of_lt_of_le}
+use Rattle.std.proofs.Common.{◌≡◌, ℕ, ◌+◌, ◌<◌, ◌≤◌, List, [], ◌∷◌, ◌++◌, length, Option, Some, unwrap_or, slice_get, slice_set, Ok, Err, refl, sym, ap, ◌∙◌, append-nil, le_of_eq, le_trans, lt_of_lt_of_le}
 use Rattle.px_value.specs.declared.value.Value.{Value}
 use Rattle.px_value.specs.declared.value.Value.TheVariants.{Null}
 use Rattle.px_value.specs.declared.op.Op.{Op}
 use Rattle.px_value.specs.Operators.{Applied, apply}
-use Rattle.px_value.specs.Outcome.{◌>>=◌, pure, Flow, Goes}
+use Rattle.px_value.specs.Outcome.{◌>>=◌, pure}
 use Rattle.px_facts.specs.declared.checked.Checked.{Checked}
 use Rattle.px_effects.specs.Run.{Ask, came_to}
 use Rattle.px_effects.specs.Act.{Comes}
@@ -22,7 +22,7 @@ use Rattle.px_normal.specs.CodeRun.{Calls, act_run, body_run}
 use Rattle.px_lowering.specs.declared.draft.Draft.{Draft}
 use Rattle.px_lowering.specs.Emit.{Operated, emitted}
 use Rattle.px_preservation.proofs.Meets.{Meets, meets_at, meets_source}
-use Rattle.px_preservation.proofs.Agree.{Agree, After, Wrote, Shares}
+use Rattle.px_preservation.proofs.Agree.{Agree, Wrote, Shares}
 use Rattle.px_preservation.proofs.Slots.{set_length, set_other, set_here}
 use Rattle.px_preservation.proofs.Operands.{IsOperand, IsSlotted}
 use Rattle.px_preservation.proofs.Runs.{run_do, run_one}

@@ -1,20 +1,19 @@
 -- Branches and loops.
-use Rattle.std.proofs.Common.{◌≡◌, ℕ, zero, suc, ◌+◌, ◌<◌, ◌≤◌, Bool, true, false, if◌then◌else◌, List, [], ◌∷◌, ◌++◌, length, slice_get, refl, sym, ap, ◌∙◌, subst, le_of_eq, le_trans}
+use Rattle.std.proofs.Common.{◌≡◌, ℕ, zero, suc, ◌+◌, ◌≤◌, Bool, true, false, if◌then◌else◌, List, [], ◌∷◌, ◌++◌, length, slice_get, refl, sym, ap, ◌∙◌, subst, le_of_eq, le_trans}
 use Rattle.px_value.specs.declared.value.Value.{Value}
 use Rattle.px_value.specs.declared.thrown.Thrown.TheVariants.{TurnsOut}
-use Rattle.px_value.specs.Outcome.{Outcome, Gives, Throws, Asks, Run, then_run, ◌>>=◌, pure, throw, beside, on_shared, Flow, Goes, Returns, goes_on}
+use Rattle.px_value.specs.Outcome.{Outcome, Gives, Throws, Asks, Run, ◌>>=◌, pure, throw, beside, on_shared, Flow, Goes, Returns, goes_on}
 use Rattle.px_facts.specs.declared.checked.Checked.{Checked}
 use Rattle.px_effects.specs.Run.{Shared, Ask, turn}
 use Rattle.px_semantics.specs.Run.{Frame as SourceFrame, Here as SourceHere}
 use Rattle.px_semantics.specs.Expressions.{Calls as SourceCalls, is_true}
 use Rattle.px_semantics.specs.Statements as source
 use Rattle.px_normal.specs.declared.word.Operand.{Operand}
-use Rattle.px_normal.specs.declared.node.Counter.{Counter}
 use Rattle.px_normal.specs.declared.node.Counter.TheVariants.{Completed}
 use Rattle.px_normal.specs.declared.method.Tree.{Tree}
 use Rattle.px_normal.specs.declared.method.Tree.TheVariants.{If, Loop}
 use Rattle.px_normal.specs.declared.code.Code.{Code}
-use Rattle.px_normal.specs.Run.{Traced, Frame, Here, Ran, with_ran, on_traced, noted}
+use Rattle.px_normal.specs.Run.{Frame, Here, Ran, with_ran, on_traced, noted}
 use Rattle.px_normal.specs.Words.{operand}
 use Rattle.px_normal.specs.CodeRun.{Calls, all_turns, tested, loop, body_run}
 use Rattle.px_lowering.specs.declared.draft.Draft.{Draft}
@@ -22,7 +21,7 @@ use Rattle.px_lowering.specs.Emit.{Operated, noded, with_trees}
 use Rattle.px_lowering.specs.Expressions.{Part, operand_at}
 use Rattle.px_lowering.specs.Statements.{Steps, branched, loop_low}
 use Rattle.px_preservation.proofs.Meets.{Meets, meets_at, meets_bind, meets_more}
-use Rattle.px_preservation.proofs.Agree.{Agree, After, Shares, IsDone}
+use Rattle.px_preservation.proofs.Agree.{Agree, Shares, IsDone}
 use Rattle.px_preservation.proofs.Operands.{IsOperand}
 use Rattle.px_preservation.proofs.Runs.{run_if, run_loop, run_one}
 use Rattle.px_preservation.proofs.Sequences.{agree_after, grows, joined, Done, then_operand}

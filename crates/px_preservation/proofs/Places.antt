@@ -1,23 +1,21 @@
 -- The assignment to each form of an expression.
-use Rattle.std.proofs.Common.{◌≡◌, ℕ, ◌+◌, ◌<◌, ◌≤◌, Bool, List, [], ◌∷◌, length, Option, Some, None, slice_get, refl, sym, ap, ◌∙◌, subst, le_trans}
+use Rattle.std.proofs.Common.{◌≡◌, ℕ, ◌≤◌, List, ◌∷◌, length, Some, refl, sym, ap, ◌∙◌, subst, le_trans}
 use Rattle.std.proofs.lemmas.Option.{slice_get_within}
 use Rattle.px_value.specs.declared.value.Value.{Value}
-use Rattle.px_value.specs.Outcome.{◌>>=◌, pure, on_shared}
+use Rattle.px_value.specs.Outcome.{◌>>=◌, on_shared}
 use Rattle.px_tree.specs.declared.Expr.{Expr}
 use Rattle.px_tree.specs.declared.ExprForm.{ExprForm-F, ExprForm, out-ExprForm}
 use Rattle.px_tree.specs.declared.ExprForm.TheVariants.{outs-Number, outs-Str, outs-True, outs-False, outs-Null, outs-This, outs-Name, outs-Group, outs-Field, outs-Index, outs-Call, outs-NewObject, outs-NewArray, outs-Prefix, outs-Binary}
 use Rattle.px_facts.specs.declared.types.Ty.{Ty as Static}
 use Rattle.px_facts.specs.declared.checked.Checked.{Checked}
 use Rattle.px_facts.specs.declared.checked.Named.{Named}
-use Rattle.px_facts.specs.declared.checked.Named.TheVariants as named
 use Rattle.px_effects.specs.Run.{Ask}
 use Rattle.px_semantics.specs.Run.{Here as SourceHere}
 use Rattle.px_semantics.specs.Facts.{type_at, named_at}
 use Rattle.px_semantics.specs.Effects.{store}
-use Rattle.px_semantics.specs.Expressions.{Meant, Calls as SourceCalls, no_place, fit, put_name, put_member}
+use Rattle.px_semantics.specs.Expressions.{Meant, Calls as SourceCalls, fit, put_name, put_member}
 use Rattle.px_semantics.specs.Typing as typing
 use Rattle.px_semantics.specs.Typing.{IsVariable, IsMember, IsTypedExpr}
-use Rattle.px_normal.specs.declared.word.Operand.TheVariants.{Slot}
 use Rattle.px_normal.specs.declared.node.Counter.TheVariants.{Completed}
 use Rattle.px_normal.specs.declared.code.Code.{Code}
 use Rattle.px_normal.specs.CodeRun.{Calls}

@@ -1,8 +1,8 @@
 -- One run after another, on both sides.
-use Rattle.std.proofs.Common.{◌≡◌, ℕ, ◌+◌, ◌<◌, ◌≤◌, List, [], ◌∷◌, ◌++◌, length, Option, Some, None, unwrap_or, slice_get, refl, sym, ap, ◌∙◌, subst, arith, append_assoc, append-nil, length-append, le_of_eq, le-add_right, le_trans, lt_of_lt_of_le}
+use Rattle.std.proofs.Common.{◌≡◌, ℕ, ◌+◌, ◌≤◌, List, [], ◌++◌, length, Option, unwrap_or, slice_get, refl, sym, ap, ◌∙◌, arith, append_assoc, append-nil, length-append, le_of_eq, le_trans, lt_of_lt_of_le}
 use Rattle.px_value.specs.declared.value.Value.{Value}
 use Rattle.px_value.specs.declared.value.Value.TheVariants.{Null}
-use Rattle.px_value.specs.Outcome.{Outcome, Gives, Throws, Asks, then_run, ◌>>=◌, pure, Flow, Goes, Returns, goes_on}
+use Rattle.px_value.specs.Outcome.{Outcome, then_run, ◌>>=◌, pure, Flow, Goes, Returns, goes_on}
 use Rattle.px_facts.specs.declared.checked.Checked.{Checked}
 use Rattle.px_effects.specs.Run.{Ask}
 use Rattle.px_semantics.specs.Run.{Frame as SourceFrame, Here as SourceHere}

@@ -1,10 +1,10 @@
 -- Each statement of a typed method is lowered to code that does what it does.
-use Rattle.std.proofs.Common.{◌≡◌, ℕ, ◌+◌, ◌<◌, ◌≤◌, ◌||◌, Bool, true, false, if◌then◌else◌, List, [], ◌∷◌, ◌++◌, map, length, Option, Some, None, option_map, slice_get, refl, sym, ap, ◌∙◌, subst, append-nil, le_trans}
+use Rattle.std.proofs.Common.{◌≡◌, ℕ, ◌+◌, ◌<◌, ◌≤◌, Bool, List, [], ◌∷◌, ◌++◌, map, length, Some, None, refl, sym, ap, ◌∙◌, subst, append-nil, le_trans}
 use Rattle.std.proofs.lemmas.Option.{slice_get_within}
 use Rattle.px_value.specs.declared.value.Value.{Value}
 use Rattle.px_value.specs.declared.op.Op.{Op}
 use Rattle.px_value.specs.declared.op.Op.TheVariants as op
-use Rattle.px_value.specs.Outcome.{◌>>=◌, pure, on_shared, Flow, Goes, Returns, goes_on, in_order}
+use Rattle.px_value.specs.Outcome.{◌>>=◌, pure, Goes, Returns, goes_on, in_order}
 use Rattle.px_tree.specs.declared.Expr.{Expr}
 use Rattle.px_tree.specs.declared.Stmt.{Stmt}
 use Rattle.px_facts.specs.declared.types.Ty.{Ty as Static}
@@ -14,29 +14,26 @@ use Rattle.px_facts.specs.declared.checked.Named.{Named}
 use Rattle.px_facts.specs.declared.checked.Named.TheVariants as named
 use Rattle.px_effects.specs.Run.{Ask}
 use Rattle.px_effects.specs.Cells.{comes}
-use Rattle.px_effects.specs.Operations.{Acts}
-use Rattle.px_semantics.specs.Run.{Frame as SourceFrame, Here as SourceHere}
+use Rattle.px_semantics.specs.Run.{Here as SourceHere}
 use Rattle.px_semantics.specs.Facts.{type_at, named_at, op_of}
-use Rattle.px_semantics.specs.Expressions.{Around, Meant, Calls as SourceCalls, fit, is_true}
+use Rattle.px_semantics.specs.Expressions.{Around, Meant, Calls as SourceCalls, fit}
 use Rattle.px_semantics.specs.Statements.{Does, done_by, goes, write_local, change_local, one}
 use Rattle.px_semantics.specs.Statements as source
 use Rattle.px_semantics.specs.Typing as typing
 use Rattle.px_semantics.specs.Typing.{IsTypedExpr, IsTypedStmt, AreTypedStmts}
-use Rattle.px_normal.specs.declared.word.Operand.TheVariants.{Slot, Literal}
 use Rattle.px_normal.specs.declared.word.Word.TheVariants as w
 use Rattle.px_normal.specs.declared.node.Counter.{Counter}
 use Rattle.px_normal.specs.declared.node.Counter.TheVariants.{Begun, Completed}
 use Rattle.px_normal.specs.declared.method.Tree.TheVariants.{Do}
 use Rattle.px_normal.specs.declared.code.Code.{Code}
-use Rattle.px_normal.specs.Run.{Frame}
-use Rattle.px_normal.specs.CodeRun.{Calls, all_turns, act_run, body_run}
+use Rattle.px_normal.specs.CodeRun.{Calls, all_turns, act_run}
 use Rattle.px_lowering.specs.declared.draft.Draft.{Draft}
 use Rattle.px_lowering.specs.Emit.{Operated, emitted}
 use Rattle.px_lowering.specs.Expressions.{low, part_of, operand_at, fit_to, fitted_operand}
-use Rattle.px_lowering.specs.Statements.{Steps, lower_all, low_stmt, store, compound_low, by_one_low, unused}
+use Rattle.px_lowering.specs.Statements.{Steps, lower_all, low_stmt, store, compound_low, by_one_low}
 use Rattle.px_lowering.proofs.StmtForms.{low_block, low_empty, low_local, low_assign, low_compound, low_up, low_down, low_call, low_if, low_while, low_for, low_return, low_print}
-use Rattle.px_preservation.proofs.Meets.{Meets, meets_at}
-use Rattle.px_preservation.proofs.Agree.{Agree, Shares, CallsMeet, Lowers, IsDone, LowersStatement}
+use Rattle.px_preservation.proofs.Meets.{meets_at}
+use Rattle.px_preservation.proofs.Agree.{Shares, CallsMeet, Lowers, IsDone, LowersStatement}
 use Rattle.px_preservation.proofs.SourceForms.{meant_type, done_block, done_empty, done_local, done_assign, done_compound, done_up, done_down, done_call, done_if, done_while, done_for, done_return, done_print}
 use Rattle.px_preservation.proofs.Operands.{IsOperand, unused_is}
 use Rattle.px_preservation.proofs.Runs.{run_do, run_one}

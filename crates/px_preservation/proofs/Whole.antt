@@ -1,21 +1,18 @@
 -- The code of a typed program does what the program does.
-use Rattle.std.proofs.Common.{◌≡◌, ℕ, List, length, refl}
-use Rattle.px_value.specs.declared.object.Object.{Object}
-use Rattle.px_value.specs.declared.value.Value.{Value}
+use Rattle.std.proofs.Common.{List, length}
 use Rattle.px_tree.specs.declared.Expr.{Expr}
 use Rattle.px_facts.specs.declared.types.Ty.{Ty as Static}
 use Rattle.px_facts.specs.declared.checked.Checked.{Checked}
 use Rattle.px_effects.specs.Run.{Ask}
 use Rattle.px_semantics.specs.Expressions.{Calls as SourceCalls}
-use Rattle.px_semantics.specs.Program.{source_from}
-use Rattle.px_semantics.specs.Typing.{IsTyped, IsTypedExpr}
+use Rattle.px_semantics.specs.Typing.{IsTypedExpr}
 use Rattle.px_normal.specs.CodeRun.{Calls}
 use Rattle.px_lowering.specs.Programs.{lowered}
 use Rattle.px_preservation.specs.Laws.{KeepsMeaning}
 use Rattle.px_preservation.proofs.Agree.{CallsMeet, Lowers}
 use Rattle.px_preservation.proofs.Program.{SameProgram, same_program}
 use Rattle.px_preservation.proofs.Statements.{lowers_statement}
-use Rattle.px_preservation.proofs.Frames.{LowersBodies, code_is_source}
+use Rattle.px_preservation.proofs.Frames.{code_is_source}
 
 module _ (Q W : Type 0) where
   abbrev pub LowersExpressions : Type 0
