@@ -10,6 +10,7 @@ pub mod Choices
 pub mod Parts
 pub mod Arguments
 pub mod Invoked
+pub mod Expressions
 pub mod Program
 pub mod Runs
 pub mod SourceForms
