@@ -1,5 +1,5 @@
 -- Calls of methods, of the library and of `Db`: the receiver and the arguments as operands in a row, and then the call.
-use Rattle.std.proofs.Common.{◌≡◌, ℕ, ◌<◌, ◌≤◌, Bool, true, false, List, [], ◌∷◌, ◌++◌, map, append-nil, length, Option, Some, None, option_map, unwrap_or, slice_get, Result, Ok, Err, refl, sym, ap, ◌∙◌, subst, arith}
+use Rattle.std.proofs.Common.{◌≡◌, ℕ, ◌<◌, ◌≤◌, true, false, List, [], ◌∷◌, map, append-nil, length, Option, Some, None, option_map, unwrap_or, slice_get, Result, refl, sym, ap, ◌∙◌, arith}
 use Rattle.px_value.specs.declared.value.Value.{Value}
 use Rattle.px_value.specs.declared.value.Value.TheVariants.{Int, Long, Bool as Truth, Text, Ref, Null}
 use Rattle.px_value.specs.declared.thrown.Thrown.{Thrown}
@@ -26,12 +26,11 @@ use Rattle.px_semantics.specs.Operations.{query, update}
 use Rattle.px_semantics.specs.Expressions.{Calls as SourceCalls, Meant, this_value, fitted, receiver, result_value, call_method, invoke, called}
 use Rattle.px_normal.specs.declared.ty.Ty.{Ty}
 use Rattle.px_normal.specs.declared.word.Operand.{Operand}
-use Rattle.px_normal.specs.declared.word.Operand.TheVariants.{Slot, Literal}
+use Rattle.px_normal.specs.declared.word.Operand.TheVariants.{Slot}
 use Rattle.px_normal.specs.declared.node.Counter.{Counter}
 use Rattle.px_normal.specs.declared.code.Code.{Code}
 use Rattle.px_normal.specs.First.{Slots, fresh_of}
 use Rattle.px_normal.specs.First as first
-use Rattle.px_normal.specs.Run.{Frame}
 use Rattle.px_normal.specs.Words.{operand, operands, invokes_on}
 use Rattle.px_normal.specs.CodeRun.{Calls}
 use Rattle.px_lowering.specs.declared.draft.Draft.{Draft}
@@ -50,7 +49,7 @@ use Rattle.px_preservation.proofs.Operands.{IsOperand}
 use Rattle.px_preservation.proofs.Fitted.{came_same}
 use Rattle.px_preservation.proofs.Parts.{says, operand_low}
 use Rattle.px_preservation.proofs.Arguments.{IsRow, row_none, row_more, AllLower, arguments_row, made_rows}
-use Rattle.px_preservation.proofs.Agree.{Agree, Shares, IsBelow, AreBelow, IsStepBelow, CallsMeet, IsLowered, Lowers, around}
+use Rattle.px_preservation.proofs.Agree.{IsBelow, AreBelow, IsStepBelow, CallsMeet, IsLowered, Lowers, around}
 
 -- a value there, or null
 first_operand : (slots : Slots) (xs : List Operand) → operand slots (first_of xs) ≡ unwrap_or (slice_get (operands slots xs) 0) Null

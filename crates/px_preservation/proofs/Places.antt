@@ -26,7 +26,7 @@ use Rattle.px_lowering.specs.Expressions as lower
 use Rattle.px_preservation.proofs.Agree.{CallsMeet, Lowers}
 use Rattle.px_preservation.proofs.SourceForms.{meant_number, meant_text, meant_true, meant_false, meant_null, meant_this, meant_name, meant_group, meant_field, meant_index, meant_call, meant_new_object, meant_new_array, meant_prefix, meant_binary}
 use Rattle.px_preservation.proofs.Operands.{IsOperand}
-use Rattle.px_preservation.proofs.Sequences.{grows}
+use Rattle.px_preservation.proofs.Afters.{grown}
 use Rattle.px_preservation.proofs.Assignments.{IsPut, own_field_put, field_put, element_put, two_put, nothing_put}
 use Rattle.px_preservation.proofs.Locals.{slotted_put}
 use Rattle.px_preservation.proofs.Parts.{says, operand_low, fitted_low, slot_low}
@@ -48,7 +48,7 @@ module _ (Q W : Type 0) (ask : Ask Q W) (P : Checked) (code : Code) (source_call
   HasOperand = IsOperand Q W ask P code source_calls calls N
 
   wider : (r : SourceHere Q W Value) (o : Draft) (a : Operated) → N ≤ length o.slots → HasOperand r o a → N ≤ length a.out.slots
-  wider r o a le i = le_trans le (grows o.slots a.out.slots i.temps i.slots_are)
+  wider r o a le i = le_trans le (grown o.slots a.out.slots i.temps i.slots_are)
 
   variable_put : (nm : Named) (t to : Static) (x : Expr) (token : ℕ) → IsVariable P.facts static nm t → Low x → (o : Draft) → N ≤ length o.slots → Writes (put_name nm to (Says x).ty (Says x).run) o (lower.put_name P nm to (part_of P x) token o)
   variable_put _ _ to x token (typing.IsVariable.local slot t h) l o le = slotted_put Q W ask P code source_calls calls N ((Says x).run >>= fit (Says x).ty to) slot o _ (slice_get_within static slot t h) le (slot_low Q W ask P code source_calls calls N met x l to slot token o le)

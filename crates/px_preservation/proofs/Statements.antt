@@ -37,7 +37,8 @@ use Rattle.px_preservation.proofs.Agree.{Shares, CallsMeet, Lowers, IsDone, Lowe
 use Rattle.px_preservation.proofs.SourceForms.{meant_type, done_block, done_empty, done_local, done_assign, done_compound, done_up, done_down, done_call, done_if, done_while, done_for, done_return, done_print}
 use Rattle.px_preservation.proofs.Operands.{IsOperand, unused_is}
 use Rattle.px_preservation.proofs.Runs.{run_do, run_one}
-use Rattle.px_preservation.proofs.Sequences.{joined, grows, Done, then_operand, empty_done, seq_done, unused_done}
+use Rattle.px_preservation.proofs.Afters.{behind, grown}
+use Rattle.px_preservation.proofs.Sequences.{Done, then_operand, empty_done, seq_done, unused_done}
 use Rattle.px_preservation.proofs.Assignments.{IsPut, goes_done, print_put}
 use Rattle.px_preservation.proofs.Locals.{slotted_put, change_put, change_by}
 use Rattle.px_preservation.proofs.Loops.{if_done, loop_done}
@@ -65,7 +66,7 @@ module _ (Q W : Type 0) (ask : Ask Q W) (P : Checked) (code : Code) (source_call
       record {
         trees = i.trees ++ Do node word ∷ [];
         temps = i.temps;
-        trees_are = joined o.trees x.out.trees (emitted P word token counter x.out).trees i.trees (Do node word ∷ []) i.trees_are refl;
+        trees_are = behind o.trees x.out.trees (emitted P word token counter x.out).trees i.trees (Do node word ∷ []) i.trees_are refl;
         slots_are = i.slots_are;
         method_is = i.method_is;
         meets = λ s c g size. then_operand Q W ask P code source_calls calls n r o x i le (Do node word ∷ []) (λ v. pure (Returns (Some v))) (Done Q W ask P code source_calls calls n c) s c g size
@@ -153,12 +154,12 @@ module _ (Q W : Type 0) (ask : Ask Q W) (P : Checked) (code : Code) (source_call
           (λ o le.
           let first = lowers_statement b begin i o le in
           let o1 : Draft = steps begin o in
-          let le1 : N ≤ length o1.slots = le_trans le (grows o.slots o1.slots first.temps first.slots_are) in
+          let le1 : N ≤ length o1.slots = le_trans le (grown o.slots o1.slots first.temps first.slots_are) in
           seq_done Q W ask P code source_calls calls N (does begin) (source.loop (Says test).run (does body >>= goes_on (does last)) all_turns) o o1 _ first
           (loop_done Q W ask P code source_calls calls N (Says test).run (does body >>= goes_on (does last)) (part_of P test) (λ o. steps last (steps body o)) x.token o1 le1 (operand_of test t _ le1)
           (λ o le.
           let once = lowers_statement d body k o le in
-          seq_done Q W ask P code source_calls calls N (does body) (does last) o (steps body o) _ once (lowers_statement c last j (steps body o) (le_trans le (grows o.slots (steps body o).slots once.temps once.slots_are))))))
+          seq_done Q W ask P code source_calls calls N (does body) (does last) o (steps body o) _ once (lowers_statement c last j (steps body o) (le_trans le (grown o.slots (steps body o).slots once.temps once.slots_are))))))
       lowers_statement _ _ (typing.IsTypedStmt.leave x h e) = by_form x _ _ (done_return Q W Here result x None h) (low_return P result x None h) (λ o le. leave_done Q W ask P code source_calls calls N o x.token (Begun x.id))
       lowers_statement _ _ (typing.IsTypedStmt.give x value h f v) = by_form x _ _ (done_return Q W Here result x (Some value) h) (low_return P result x (Some value) h)
           (λ o le. give_done Q W ask P code source_calls calls N ((Says value).run >>= fit (Says value).ty result) o (fitted_operand P result (part_of P value) o) x.token (Completed value.id) le (fitted_low Q W ask P code source_calls calls N met value (lows value v) result o le))
@@ -170,4 +171,4 @@ module _ (Q W : Type 0) (ask : Ask Q W) (P : Checked) (code : Code) (source_call
       lowers_all _ _ (typing.AreTypedStmts.last x c t) o le = seq_done Q W ask P code source_calls calls N (does x) (pure Goes) o (steps x o) (steps x o) (lowers_statement c x t o le) (empty_done Q W ask P code source_calls calls N (steps x o))
       lowers_all _ _ (typing.AreTypedStmts.more x xs c d t a) o le =
           let once = lowers_statement c x t o le in
-          seq_done Q W ask P code source_calls calls N (does x) (in_order (map does xs)) o (steps x o) _ once (lowers_all d xs a (steps x o) (le_trans le (grows o.slots (steps x o).slots once.temps once.slots_are)))
+          seq_done Q W ask P code source_calls calls N (does x) (in_order (map does xs)) o (steps x o) _ once (lowers_all d xs a (steps x o) (le_trans le (grown o.slots (steps x o).slots once.temps once.slots_are)))
