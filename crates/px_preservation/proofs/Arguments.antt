@@ -1,7 +1,7 @@
 -- Operands in a row, and a last statement behind them.
-use Rattle.std.proofs.Common.{◌≡◌, ℕ, ◌+◌, ◌<◌, ◌≤◌, List, [], ◌∷◌, ◌++◌, map, append_assoc, append-nil, length, length-append, slice_index_or, refl, sym, ap, ◌∙◌, subst, arith}
+use Rattle.std.proofs.Common.{◌≡◌, ℕ, ◌+◌, ◌≤◌, List, [], ◌∷◌, ◌++◌, map, append_assoc, append-nil, length, slice_index_or, refl, sym, ap, ◌∙◌, subst, arith}
 use Rattle.px_value.specs.declared.value.Value.{Value}
-use Rattle.px_value.specs.Outcome.{Outcome, Gives, then_run, ◌>>=◌, pure, on_shared, Flow, Goes, goes_on}
+use Rattle.px_value.specs.Outcome.{Outcome, then_run, ◌>>=◌, on_shared, Flow, Goes, goes_on}
 use Rattle.px_tree.specs.declared.Expr.{Expr}
 use Rattle.px_facts.specs.declared.types.Ty.{Ty as Static}
 use Rattle.px_facts.specs.declared.types.Ty.TheVariants as static
@@ -22,7 +22,7 @@ use Rattle.px_normal.specs.CodeRun.{Calls, body_run}
 use Rattle.px_lowering.specs.declared.draft.Draft.{Draft}
 use Rattle.px_lowering.specs.declared.valued.Step.{Step}
 use Rattle.px_lowering.specs.declared.valued.Had.TheVariants.{Made}
-use Rattle.px_lowering.specs.Emit.{Lasted, Operated}
+use Rattle.px_lowering.specs.Emit.{Operated}
 use Rattle.px_lowering.specs.Expressions.{part_of, fitted_operand, arguments}
 use Rattle.px_preservation.proofs.Meets.{Meets, meets_at, meets_bind, meets_more}
 use Rattle.px_preservation.proofs.Runs.{run_append}

@@ -1,8 +1,8 @@
 -- `&&` and `||`: the right operand's statements stand where it counts, and both operands share a temporary.
-use Rattle.std.proofs.Common.{◌≡◌, ℕ, ◌+◌, ◌<◌, ◌≤◌, Bool, true, false, not, if◌then◌else◌, List, [], ◌∷◌, ◌++◌, append_assoc, append-nil, length, length-append, Option, Some, None, slice_get, unwrap_or, refl, sym, ap, ◌∙◌, subst, arith}
+use Rattle.std.proofs.Common.{◌≡◌, ℕ, ◌+◌, ◌<◌, ◌≤◌, Bool, true, false, not, if◌then◌else◌, List, [], ◌∷◌, ◌++◌, length, Option, Some, unwrap_or, refl, sym, ap, ◌∙◌, subst, arith}
 use Rattle.px_value.specs.declared.value.Value.{Value}
 use Rattle.px_value.specs.declared.value.Value.TheVariants.{Int, Long, Bool as Truth, Text, Ref, Null}
-use Rattle.px_value.specs.Outcome.{Outcome, Gives, Throws, Asks, then_run, ◌>>=◌, pure, Flow, Goes, goes_on}
+use Rattle.px_value.specs.Outcome.{Outcome, Gives, ◌>>=◌, pure, Flow, Goes}
 use Rattle.px_facts.specs.declared.checked.Checked.{Checked}
 use Rattle.px_effects.specs.Run.{Ask}
 use Rattle.px_semantics.specs.Run.{Frame as SourceFrame, Here as SourceHere}
@@ -10,22 +10,21 @@ use Rattle.px_semantics.specs.Expressions.{Calls as SourceCalls, is_true}
 use Rattle.px_normal.specs.declared.ty.Ty.{Ty}
 use Rattle.px_normal.specs.declared.ty.Ty.TheVariants as ty
 use Rattle.px_normal.specs.declared.word.Operand.{Operand}
-use Rattle.px_normal.specs.declared.word.Operand.TheVariants.{Slot, Literal}
+use Rattle.px_normal.specs.declared.word.Operand.TheVariants.{Slot}
 use Rattle.px_normal.specs.declared.word.Word.TheVariants as w
 use Rattle.px_normal.specs.declared.method.Tree.{Tree}
 use Rattle.px_normal.specs.declared.method.Tree.TheVariants.{Do, If}
-use Rattle.px_normal.specs.declared.node.Counter.{Counter}
 use Rattle.px_normal.specs.declared.node.Counter.TheVariants.{Completed}
 use Rattle.px_normal.specs.declared.code.Code.{Code}
 use Rattle.px_normal.specs.Run.{Frame, noted}
 use Rattle.px_normal.specs.Words.{operand}
 use Rattle.px_normal.specs.Words as code_words
-use Rattle.px_normal.specs.CodeRun.{Calls, body_run, tree_run, tested}
+use Rattle.px_normal.specs.CodeRun.{Calls, body_run}
 use Rattle.px_lowering.specs.declared.draft.Draft.{Draft}
 use Rattle.px_lowering.specs.declared.valued.Had.{Had}
 use Rattle.px_lowering.specs.declared.valued.Had.TheVariants.{Held, Chosen, Made}
 use Rattle.px_lowering.specs.Emit.{Lasted, Temped, temped, temp_of, slot_of, writes, noded, with_trees}
-use Rattle.px_lowering.specs.Expressions.{Part, choice, chosen, choice_low}
+use Rattle.px_lowering.specs.Expressions.{Part, choice, choice_low}
 use Rattle.px_preservation.proofs.Meets.{Meets, meets_at, meets_more}
 use Rattle.px_preservation.proofs.Runs.{run_one, run_if}
 use Rattle.px_preservation.proofs.Afters.{behind, grown, one_more, after_then, agree_after, wrote_above}

@@ -1,5 +1,5 @@
 -- Each typed expression is lowered to code that does what it does.
-use Rattle.std.proofs.Common.{◌≡◌, ℕ, ◌<◌, ◌≤◌, Bool, true, false, List, [], ◌∷◌, map, append-nil, length, Option, Some, None, option_map, unwrap_or, slice_get, Ok, Err, refl, sym, ap, ◌∙◌, subst, arith}
+use Rattle.std.proofs.Common.{◌≡◌, ℕ, ◌<◌, ◌≤◌, Bool, true, false, List, [], ◌∷◌, map, append-nil, length, Option, Some, None, option_map, unwrap_or, slice_get, Ok, refl, sym, ap, ◌∙◌, subst, arith}
 use Rattle.std.proofs.lemmas.Option.{slice_get_within}
 use Rattle.px_value.specs.declared.value.Value.{Value}
 use Rattle.px_value.specs.declared.value.Value.TheVariants.{Null, Bool as Truth, Text}
@@ -20,8 +20,7 @@ use Rattle.px_facts.specs.declared.types.Element.{Element}
 use Rattle.px_facts.specs.declared.checked.Checked.{Checked}
 use Rattle.px_facts.specs.declared.checked.Named.{Named}
 use Rattle.px_facts.specs.declared.checked.Named.TheVariants as named
-use Rattle.px_effects.specs.Run.{Shared, Ask, came_to}
-use Rattle.px_effects.specs.Act.{Act, does}
+use Rattle.px_effects.specs.Run.{Ask, came_to}
 use Rattle.px_effects.specs.Cells.{first_cells}
 use Rattle.px_effects.specs.Cells as cells
 use Rattle.px_semantics.specs.Run.{Frame as SourceFrame, Here as SourceHere}
@@ -30,21 +29,18 @@ use Rattle.px_semantics.specs.Effects.{load, get_field}
 use Rattle.px_semantics.specs.Expressions.{Around, Calls as SourceCalls, Meant, literal, slot_value, this_value, name_value, member_value, called, made_object, made_array, prefixed, binary, expr_step, numbered, meant}
 use Rattle.px_semantics.specs.Typing.{IsVariable, IsMember, IsLibrary, IsTypedExpr, IsReceiver, AreArguments}
 use Rattle.px_semantics.specs.Typing as typing
-use Rattle.px_normal.specs.declared.word.Operand.{Operand}
-use Rattle.px_normal.specs.declared.word.Operand.TheVariants.{Slot, Literal}
-use Rattle.px_normal.specs.declared.node.Counter.{Counter}
+use Rattle.px_normal.specs.declared.word.Operand.TheVariants.{Slot}
 use Rattle.px_normal.specs.declared.node.Counter.TheVariants.{Begun, Completed}
 use Rattle.px_normal.specs.declared.code.Code.{Code}
 use Rattle.px_normal.specs.First.{fresh_of}
-use Rattle.px_normal.specs.Run.{Frame}
 use Rattle.px_normal.specs.Words.{operand}
 use Rattle.px_normal.specs.CodeRun.{Calls}
 use Rattle.px_lowering.specs.declared.draft.Draft.{Draft}
 use Rattle.px_lowering.specs.declared.valued.Step.TheVariants as step
-use Rattle.px_lowering.specs.declared.valued.Had.TheVariants.{Held, Chosen, Made}
+use Rattle.px_lowering.specs.declared.valued.Had.TheVariants.{Held}
 use Rattle.px_lowering.specs.Types.{code_type}
-use Rattle.px_lowering.specs.Emit.{Lasted, Operated}
-use Rattle.px_lowering.specs.Expressions.{Low, Part, valued, stands, operand_at, name_had, member_had, member_low, index_low, object_had, array_had, array_low, negated, number_in, number_of, literal_behind, prefix_low, two_low, binary_low, call_low, low, part_of}
+use Rattle.px_lowering.specs.Emit.{Lasted}
+use Rattle.px_lowering.specs.Expressions.{Low, valued, stands, operand_at, name_had, member_had, index_low, object_had, array_had, negated, number_in, number_of, literal_behind, prefix_low, two_low, binary_low, call_low, low, part_of}
 use Rattle.px_lowering.proofs.Forms.{low_number, low_text, low_true, low_false, low_null, low_this, low_name, low_group, low_field, low_index, low_call, low_new_object, low_new_array, low_prefix, low_binary}
 use Rattle.px_preservation.proofs.SourceForms.{meant_number, meant_text, meant_true, meant_false, meant_null, meant_this, meant_name, meant_group, meant_field, meant_index, meant_call, meant_new_object, meant_new_array, meant_prefix, meant_binary, meant_type}
 use Rattle.px_preservation.proofs.Program.{SameProgram}
@@ -56,7 +52,7 @@ use Rattle.px_preservation.proofs.Choices.{chooses}
 use Rattle.px_preservation.proofs.Parts.{says, operand_low}
 use Rattle.px_preservation.proofs.Arguments.{AllLower}
 use Rattle.px_preservation.proofs.Invoked.{acts_here, this_operand, LowersReceiver, method_call, length_call, equals_call, next_call, long_call, text_call, query_call, update_call}
-use Rattle.px_preservation.proofs.Agree.{Agree, CallsMeet, IsLowered, Lowers, around}
+use Rattle.px_preservation.proofs.Agree.{CallsMeet, IsLowered, Lowers, around}
 
 -- the number of a place that is there
 pub within : (slots : List Static) (n k : ℕ) (t : Static) → n ≡ length slots → slice_get slots k ≡ Some t → k < n

@@ -1,12 +1,10 @@
 -- Parts of expressions and of statements, from what is known of an expression.
-use Rattle.std.proofs.Common.{◌≡◌, ℕ, ◌≤◌, Bool, length, refl, sym, subst}
-use Rattle.px_value.specs.declared.value.Value.{Value}
+use Rattle.std.proofs.Common.{ℕ, ◌≤◌, Bool, length, sym, subst}
 use Rattle.px_value.specs.Outcome.{◌>>=◌}
 use Rattle.px_tree.specs.declared.Expr.{Expr}
 use Rattle.px_facts.specs.declared.types.Ty.{Ty as Static}
 use Rattle.px_facts.specs.declared.checked.Checked.{Checked}
 use Rattle.px_effects.specs.Run.{Ask}
-use Rattle.px_semantics.specs.Run.{Here as SourceHere}
 use Rattle.px_semantics.specs.Facts.{type_at}
 use Rattle.px_semantics.specs.Expressions.{Calls as SourceCalls, Meant, fit, meant}
 use Rattle.px_normal.specs.declared.code.Code.{Code}
