@@ -142,11 +142,11 @@ module _ (Q W : Type 0) (ask : Ask Q W) (P : Checked) (code : Code) (source_call
       let g = grown o.slots o'.slots h.temps h.slots_are in
       let v = operand c1.locals (Slot slot) in
       let x : Meets (rr s1) (run h.trees c2) (Ran low slot s c) (Shares W) =
-          meets_more (rr s1) (run h.trees c2) (λ v s' f c'. (f ≡ Goes) × Wrote W (length o.slots) (Some slot) v s1 s' c2 c') (Shares W) (Ran low slot s c) (Shares W) (h.meets s1 c2 ag2 room)
-          (λ v s' f c' q.
-          let later : After W low s1 s' c2 c' = record { same = q.1.same; shared = q.1.shared; size = q.1.size; kept = λ j m. q.1.kept j (omega (arith, m, l0)) (λ u. other j m (cc u)) } in
-          (q.0, after_then W low low s s1 s' c c2 c' (omega arith) a2 later, ap (λ (u : Option Value). unwrap_or u Null) (q.1.written slot refl (omega (arith, l2, g, room)))))
-          (λ s' c' q. q) in
+      meets_more (rr s1) (run h.trees c2) (λ v s' f c'. (f ≡ Goes) × Wrote W (length o.slots) (Some slot) v s1 s' c2 c') (Shares W) (Ran low slot s c) (Shares W) (h.meets s1 c2 ag2 room)
+      (λ v s' f c' q.
+      let later : After W low s1 s' c2 c' = record { same = q.1.same; shared = q.1.shared; size = q.1.size; kept = λ j m. q.1.kept j (omega (arith, m, l0)) (λ u. other j m (cc u)) } in
+      (q.0, after_then W low low s s1 s' c c2 c' (omega arith) a2 later, ap (λ (u : Option Value). unwrap_or u Null) (q.1.written slot refl (omega (arith, l2, g, room)))))
+      (λ s' c' q. q) in
       let x' : Meets ((rr >>= pure) s1) (run h.trees c2) (Ran low slot s c) (Shares W) = subst (λ (p : Outcome Q (SourceFrame W) Value). Meets p (run h.trees c2) (Ran low slot s c) (Shares W)) (sym (then_pure (rr s1))) x in
       meets_at _ _ (by_test both (is_true v) h.trees c2) (Ran low slot s c) (Shares W) (choice_run both node slot h.trees c1)
       (picked both (is_true v) v (rr >>= pure) h.trees s1 c2 (Ran low slot s c) refl x' (v, s1, refl, (refl, a2, refl)))

@@ -111,8 +111,8 @@ module _ (Q W : Type 0) (ask : Ask Q W) (P : Checked) (code : Code) (source_call
   own_call : (of : Option Expr) (args : List Expr) (types : List Static) (o : Draft) (id token : ℕ) → LowersReceiver of → All args → n ≤ length o.slots → (f : List Value → SourceHere Q W Value) (x : Operand → List Operand → Step) (t : Ty) → ((high : ℕ) (a : Operand) (xs : List Operand) → IsBelow high a → AreBelow high xs → IsStepBelow high (x a xs)) → ((a : Operand) (xs : List Operand) (s : SourceFrame W) (slots : Slots) → f (operand slots a ∷ operands slots xs) s ≡ says_step (x a xs) slots s) →
       Lowered (gather [] (receiver (option_map means of) ∷ []) >>= (λ there. gather there (fitted types 0 (map means args)) >>= f)) o
       (let a = received P false (option_map (part_of P) of) id o in
-       let r = arguments P types 0 a.value.counter (map (part_of P) args) a.out in
-       record { out = r.out; value = record { id = id; token = token; had = Made (x a.value.operand r.value.operands) t r.value.counter } })
+      let r = arguments P types 0 a.value.counter (map (part_of P) args) a.out in
+      record { out = r.out; value = record { id = id; token = token; had = Made (x a.value.operand r.value.operands) t r.value.counter } })
   own_call of args types o id token h k le f x t below e =
       let a = received P false (option_map (part_of P) of) id o in
       let r = arguments P types 0 a.value.counter (map (part_of P) args) a.out in
@@ -125,7 +125,7 @@ module _ (Q W : Type 0) (ask : Ask Q W) (P : Checked) (code : Code) (source_call
   db_call : (args : List Expr) (types : List Static) (before : Counter) (o : Draft) (id token : ℕ) → All args → n ≤ length o.slots → (f : List Value → SourceHere Q W Value) (x : List Operand → Step) (t : Ty) → ((high : ℕ) (xs : List Operand) → AreBelow high xs → IsStepBelow high (x xs)) → ((xs : List Operand) (s : SourceFrame W) (slots : Slots) → f (operands slots xs) s ≡ says_step (x xs) slots s) →
       Lowered (gather [] [] >>= (λ there. gather there (fitted types 0 (map means args)) >>= f)) o
       (let r = arguments P types 0 before (map (part_of P) args) o in
-       record { out = r.out; value = record { id = id; token = token; had = Made (x r.value.operands) t r.value.counter } })
+      record { out = r.out; value = record { id = id; token = token; had = Made (x r.value.operands) t r.value.counter } })
   db_call args types before o id token k le f x t below e =
       let r = arguments P types 0 before (map (part_of P) args) o in
       let row : Row (fitted types 0 (map means args)) o r.out r.value.operands = arguments_row Q W ask P code source_calls calls n met types 0 before args o le k in

@@ -84,7 +84,7 @@ module _ (Q W : Type 0) (ask : Ask Q W) (P : Checked) (code : Code) (source_call
             let old = unwrap_or (slice_get s.locals slot) Null in
             then_operand Q W ask P code source_calls calls n r o x i le (Do node word ∷ []) (λ b. changes (apply f old b) slot) (Put Q W ask P code source_calls calls n c) s c g size
             (λ v s1 c1 g1 a1 e1. change_meets node f slot x.operand old v s1 c c1 is_local (lt_of_lt_of_le is_local (le_trans le (le_trans up (le_trans size (le_of_eq (sym a1.size)))))) g1 a1.size
-                (operand_after W (length o.slots) s s1 c c1 (Slot slot) (lt_of_lt_of_le is_local le) a1 ∙ ap (λ (z : Option Value). unwrap_or z Null) (sym (g.locals slot is_local))) e1);
+            (operand_after W (length o.slots) s s1 c c1 (Slot slot) (lt_of_lt_of_le is_local le) a1 ∙ ap (λ (z : Option Value). unwrap_or z Null) (sym (g.locals slot is_local))) e1);
       }
 
   -- by a literal

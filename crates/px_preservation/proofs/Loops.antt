@@ -158,7 +158,7 @@ module _ (Q W : Type 0) (ask : Ask Q W) (P : Checked) (code : Code) (source_call
             meets_at (source.loop r rb all_turns s) (runs (Loop first node a.operand bs ∷ []) c) (loop (runs first) (tested node a.operand) (runs bs) all_turns c) (Behind c) (Shares W) ran
             (loop_meets r rb first bs node a.operand (length (body b0).slots)
             (λ s c g size. meets_at (r s) (runs first c) (runs i.trees c) _ (Shares W) (ap (λ ts. runs ts c) i.trees_are)
-                (meets_more (r s) (runs i.trees c) _ (Shares W) _ (Shares W) (i.meets s c g (le_trans up size)) (λ v s1 f c1 q. (q.0, agree_after W n (length o.slots) s s1 c c1 le g q.1, q.1.size, q.2)) (λ s c e. e)))
+            (meets_more (r s) (runs i.trees c) _ (Shares W) _ (Shares W) (i.meets s c g (le_trans up size)) (λ v s1 f c1 q. (q.0, agree_after W n (length o.slots) s s1 c c1 le g q.1, q.1.size, q.2)) (λ s c e. e)))
             (λ s c g size. meets_at (rb s) (runs bs c) (runs ib.trees c) (Behind c) (Shares W) (ap (λ ts. runs ts c) ib.trees_are) (ib.meets s c g size))
             all_turns c size s c g refl);
       }

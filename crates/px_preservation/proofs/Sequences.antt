@@ -72,7 +72,7 @@ module _ (Q W : Type 0) (ask : Ask Q W) (P : Checked) (code : Code) (source_call
     meets = λ s c g size.
         then_trees (r s) a.trees b.trees c (Done c) (goes_on q) (Done c) (a.meets s c g (le_trans (grown o1.slots o2.slots b.temps b.slots_are) size))
         (λ f s1 f1 c1 z. meets_at (goes_on q f s1) (goes_on (runs b.trees) f1 c1) (goes_on (runs b.trees) f c1) (Done c) (Shares W) (ap (λ x. goes_on (runs b.trees) x c1) z.0)
-            (seq_on q b.trees c c1 f s1 z.1 z.2 (b.meets s1 c1 z.1 (le_trans size (le_of_eq (sym z.2))))));
+        (seq_on q b.trees c c1 f s1 z.1 z.2 (b.meets s1 c1 z.1 (le_trans size (le_of_eq (sym z.2))))));
   }
 
   -- a value that isn't used

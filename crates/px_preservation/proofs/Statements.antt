@@ -71,8 +71,8 @@ module _ (Q W : Type 0) (ask : Ask Q W) (P : Checked) (code : Code) (source_call
         method_is = i.method_is;
         meets = λ s c g size. then_operand Q W ask P code source_calls calls n r o x i le (Do node word ∷ []) (λ v. pure (Returns (Some v))) (Done Q W ask P code source_calls calls n c) s c g size
             (λ v s1 c1 g1 a1 e1. meets_at _ _ (act_run code node word (comes v) c1) (Done Q W ask P code source_calls calls n c) (Shares W)
-                (run_one Q W code ask calls (Do node word) c1 ∙ ap (λ r. r c1) (run_do Q W code ask calls node word) ∙ ap (λ z. act_run code node word (comes z) c1) e1)
-                (Returns (Some v), s1, refl, (refl, record { locals = g1.locals; shared = g1.shared }, a1.size)));
+            (run_one Q W code ask calls (Do node word) c1 ∙ ap (λ r. r c1) (run_do Q W code ask calls node word) ∙ ap (λ z. act_run code node word (comes z) c1) e1)
+            (Returns (Some v), s1, refl, (refl, record { locals = g1.locals; shared = g1.shared }, a1.size)));
       }
 
 -- ---- all forms
