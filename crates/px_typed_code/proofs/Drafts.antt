@@ -203,3 +203,76 @@ module _ (P : Checked) (C : Code) (gives : Option Ty) where
   slotted_goes slot for id token (Held a) t o h v e = emits (w.Set slot a) for _ o (λ slots g. (code_type t, ty_more o.slots slots a (code_type t) g (has_ty o.slots t a h), g slot (code_type t) e))
   slotted_goes slot for id token (Chosen from) t o h v e = emits (w.Set slot (Slot from)) for _ o (λ slots g. (code_type t, g from (code_type t) (h.1 ∙ ap (λ u. Some (code_type u)) (sym h.0)), g slot (code_type t) e))
   slotted_goes slot for id token (Made s u counter) t o h v e = emits (writes s slot) token counter o (λ slots g. h.1.writes slots g v slot (g slot (code_type t) e))
+
+  -- ---- an int where a long is wanted
+
+  widened_fine : (id token : ℕ) (had : Had) (o : Draft) → HadFits o.slots static.Int had → Fine o static.Long (widened_operand id token (operated P token had o))
+  widened_fine id token had o h =
+      let a = operated_fine token had static.Int o h refl in
+      let x = operated P token had o in
+      record {
+        goes = a.goes;
+        had = (refl, record {
+          null = refl;
+          writes = λ more g v to e. (ty.Int, ty.Int, ty.Long, ty_more x.out.slots more x.operand ty.Int g (has_ty x.out.slots static.Int x.operand a.operand), refl, refl, e);
+          unused = λ more g v. never_so v;
+        });
+      }
+
+  widens : (id token : ℕ) (had : Had) (o : Draft) → HadFits o.slots static.Int had → Fine o static.Long (widened P id token had o)
+  widens id token (Held (Literal (value.Int n))) o h = record { goes = goes_none o; had = OperandFits.plain static.Long (Literal (value.Long n)) refl refl }
+  widens id token (Held (Slot k)) o h = widened_fine id token (Held (Slot k)) o h
+  widens id token (Held (Literal (value.Long n))) o h = widened_fine id token (Held (Literal (value.Long n))) o h
+  widens id token (Held (Literal (value.Bool b))) o h = widened_fine id token (Held (Literal (value.Bool b))) o h
+  widens id token (Held (Literal (value.Text bytes))) o h = widened_fine id token (Held (Literal (value.Text bytes))) o h
+  widens id token (Held (Literal value.Null)) o h = widened_fine id token (Held (Literal value.Null)) o h
+  widens id token (Held (Literal (value.Ref r))) o h = widened_fine id token (Held (Literal (value.Ref r))) o h
+  widens id token (Chosen slot) o h = widened_fine id token (Chosen slot) o h
+  widens id token (Made s u counter) o h = widened_fine id token (Made s u counter) o h
+
+  abbrev as_it_is : (id token : ℕ) → Had → Draft → Lasted
+  as_it_is id token had o = record { out = o; value = record { id = id; token = token; had = had } }
+
+  fitted_same : (t : Static) (id token : ℕ) (had : Had) (o : Draft) → fitted P t t id token had o ≡ as_it_is id token had o
+  fitted_same static.Unknown id token had o = refl
+  fitted_same static.Void id token had o = refl
+  fitted_same static.Null id token had o = refl
+  fitted_same static.Int id token had o = refl
+  fitted_same static.Long id token had o = refl
+  fitted_same static.Boolean id token had o = refl
+  fitted_same static.Text id token had o = refl
+  fitted_same (static.Object class) id token had o = refl
+  fitted_same (static.Array of) id token had o = refl
+  fitted_same static.ResultSet id token had o = refl
+
+  fitted_unknown : (t : Static) (id token : ℕ) (had : Had) (o : Draft) → fitted P t static.Unknown id token had o ≡ as_it_is id token had o
+  fitted_unknown static.Unknown id token had o = refl
+  fitted_unknown static.Void id token had o = refl
+  fitted_unknown static.Null id token had o = refl
+  fitted_unknown static.Int id token had o = refl
+  fitted_unknown static.Long id token had o = refl
+  fitted_unknown static.Boolean id token had o = refl
+  fitted_unknown static.Text id token had o = refl
+  fitted_unknown (static.Object class) id token had o = refl
+  fitted_unknown (static.Array of) id token had o = refl
+  fitted_unknown static.ResultSet id token had o = refl
+
+  stays : (t : Static) (id token : ℕ) (had : Had) (o : Draft) → HadFits o.slots t had → Fine o t (as_it_is id token had o)
+  stays t id token had o h = record { goes = goes_none o; had = h }
+
+  null_had : (to : Static) (slots : List Ty) (had : Had) → MayBeNull to → HadFits slots static.Null had → HadFits slots to had
+  null_had to slots (Held _) m (OperandFits.null _ h) = OperandFits.null to m
+  null_had to slots (Held _) m (OperandFits.plain _ a n h) = never n
+  null_had to slots (Chosen slot) m h = absurd (cc h.0)
+  null_had to slots (Made s u counter) m h = never h.1.null
+
+  pub fitted_fine : (from to : Static) → Fits from to → (id token : ℕ) (had : Had) (o : Draft) → HadFits o.slots from had → Fine o to (fitted P from to id token had o)
+  fitted_fine _ _ (typing.Fits.same t) id token had o h = subst (λ x. Fine o t x) (sym (fitted_same t id token had o)) (stays t id token had o h)
+  fitted_fine _ _ typing.Fits.wide id token had o h = widens id token had o h
+  fitted_fine _ _ (typing.Fits.null to m) id token had o h = stays to id token had o (null_had to o.slots had m h)
+
+  -- where the type that is wanted isn't known, which is then no long
+  pub unknown_fine : (from to : Static) → Fits from to → (to ≡ static.Long → ⊥) → (id token : ℕ) (had : Had) (o : Draft) → HadFits o.slots from had → Fine o to (fitted P from static.Unknown id token had o)
+  unknown_fine _ _ (typing.Fits.same t) n id token had o h = subst (λ x. Fine o t x) (sym (fitted_unknown t id token had o)) (stays t id token had o h)
+  unknown_fine _ _ typing.Fits.wide n id token had o h = absurd (n refl)
+  unknown_fine _ _ (typing.Fits.null to m) n id token had o h = stays to id token had o (null_had to o.slots had m h)
