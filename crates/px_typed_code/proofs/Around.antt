@@ -7,7 +7,7 @@ use Rattle.px_facts.specs.declared.types.Ty.{Ty as Static}
 use Rattle.px_facts.specs.declared.types.Ty.TheVariants as static
 use Rattle.px_facts.specs.declared.types.Element.{Element}
 use Rattle.px_facts.specs.declared.types.Element.TheVariants as element
-use Rattle.px_facts.specs.Types.{element_type as static_element}
+use Rattle.px_facts.specs.Types.{is_void, is_null, element_type as static_element}
 use Rattle.px_facts.specs.declared.checked.Facts.{Facts}
 use Rattle.px_facts.specs.declared.checked.MethodFact.{MethodFact}
 use Rattle.px_facts.specs.declared.checked.Named.TheVariants as named
@@ -123,3 +123,41 @@ args_sent slots (t ∷ ts) [] s h = absurd h
 pub sendable_value : (t : Static) → IsSendable t → is_value t ≡ true
 sendable_value _ typing.IsSendable.long = refl
 sendable_value _ typing.IsSendable.text = refl
+
+-- ---- results
+
+pub result_null : (t : Static) → is_result t ≡ true → is_null t ≡ false
+result_null static.Unknown h = never_so h
+result_null static.Void h = refl
+result_null static.Null h = never_so h
+result_null static.Int h = refl
+result_null static.Long h = refl
+result_null static.Boolean h = refl
+result_null static.Text h = refl
+result_null (static.Object class) h = refl
+result_null (static.Array of) h = refl
+result_null static.ResultSet h = refl
+
+pub result_some : (t : Static) → is_void t ≡ false → code_result t ≡ Some (code_type t)
+result_some static.Unknown h = refl
+result_some static.Void h = never h
+result_some static.Null h = refl
+result_some static.Int h = refl
+result_some static.Long h = refl
+result_some static.Boolean h = refl
+result_some static.Text h = refl
+result_some (static.Object class) h = refl
+result_some (static.Array of) h = refl
+result_some static.ResultSet h = refl
+
+pub result_none : (t : Static) → is_void t ≡ true → code_result t ≡ None
+result_none static.Unknown h = never_so h
+result_none static.Void h = refl
+result_none static.Null h = never_so h
+result_none static.Int h = never_so h
+result_none static.Long h = never_so h
+result_none static.Boolean h = never_so h
+result_none static.Text h = never_so h
+result_none (static.Object class) h = never_so h
+result_none (static.Array of) h = never_so h
+result_none static.ResultSet h = never_so h

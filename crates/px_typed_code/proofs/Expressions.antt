@@ -22,10 +22,10 @@ use Rattle.px_facts.specs.declared.checked.Named.TheVariants as named
 use Rattle.px_facts.specs.declared.checked.Facts.{Facts}
 use Rattle.px_facts.specs.declared.checked.MethodFact.{MethodFact}
 use Rattle.px_facts.specs.declared.operation.Operation.{Operation}
-use Rattle.px_semantics.specs.Facts.{type_at, named_at, by_number, fields_of, params_of, op_of, prefix_of, element_number}
+use Rattle.px_semantics.specs.Facts.{type_at, named_at, by_number, fields_of, params_in, operands_in, params_of, op_of, prefix_of, element_number}
 use Rattle.px_semantics.specs.Expressions.{literal, is_operation, operands}
 use Rattle.px_semantics.specs.Typing as typing
-use Rattle.px_semantics.specs.Typing.{GivesType, PrefixGives, BinaryGives, Fits, IsVariable, IsMember, IsLibrary, IsSendable, AreSendable, literal_type, IsTypedExpr, IsReceiver, AreArguments}
+use Rattle.px_semantics.specs.Typing.{GivesType, PrefixGives, BinaryGives, Fits, IsVariable, IsMember, IsLibrary, IsSendable, AreSendable, is_select, literal_type, IsTypedExpr, IsReceiver, AreArguments}
 use Rattle.px_normal.specs.declared.ty.Ty.{Ty}
 use Rattle.px_normal.specs.declared.ty.Ty.TheVariants as ty
 use Rattle.px_normal.specs.declared.word.Operand.{Operand}
@@ -54,7 +54,7 @@ use Rattle.px_typed_code.specs.Uses.{is_value, is_choice, joins, IsPart, IsUsed}
 use Rattle.px_typed_code.proofs.Operators.{IsPlain, GivesCode, gives_code, prefix_joins_none, SignIs, sign_is, never, never_so}
 use Rattle.px_typed_code.proofs.Operators as operators
 use Rattle.px_typed_code.proofs.Drafts.{Grows, grows_append, OperandFits, has_ty, ty_more, operand_more, StepFits, HadFits, had_more, Goes, goes_none, goes_then, trees_next, node_is, nodes_go, Fine, FineOperand, operated_fine, FineTemp, temped_fine, slotted_goes, fitted_fine, unknown_fine}
-use Rattle.px_typed_code.proofs.Around.{IsMethodOf, IsCodeOf, query_is, value_plain, element_plain, element_is, ArgsFit, args_more, args_first, args_count, args_sent, sendable_value}
+use Rattle.px_typed_code.proofs.Around.{IsMethodOf, IsCodeOf, query_is, value_plain, element_plain, element_is, ArgsFit, args_more, args_first, args_count, args_sent, sendable_value, result_null, result_some, result_none}
 
 module _ (P : Checked) (C : Code) (gives : Option Ty) (code : IsCodeOf P.facts C) (locals : List Static) (values : (place : ℕ) (t : Static) → slice_get locals place ≡ Some t → is_value t ≡ true) where
   abbrev F : Facts
@@ -355,3 +355,196 @@ module _ (P : Checked) (C : Code) (gives : Option Ty) (code : IsCodeOf P.facts C
       let r = arguments P types 0 (Begun id) (map (part_of P) es) o in
       let y = takes (Begun id) o s in
       behind t _ id token o r.out y.goes (made_fits r.out.slots id t (st r.value.operands) r.value.counter q (fits r.out.slots r.value.operands y.args))
+
+  call_step : (number : ℕ) (fact : MethodFact) (slots : List Ty) (a : Operand) (xs : List Operand) → by_number F.methods number ≡ Some fact → OperandFits slots (static.Object fact.class) a → ArgsFit slots fact.params xs → StepFits P C gives slots fact.result (step.Call a number xs)
+  call_step number fact slots a xs e h k =
+      let m = code.methods number fact e in
+      let count : length xs ≡ m.method.params = args_count slots fact.params xs k ∙ sym m.params in
+      let first : (more : List Ty) → Grows slots more → AreFirst more (a ∷ xs) m.method.slots = λ more g. subst (λ (ts : List Ty). AreFirst more (a ∷ xs) ts) (sym m.slots) (has_ty more (static.Object fact.class) a (operand_more slots more _ a g h), args_first more fact.params xs m.behind (args_more slots more fact.params xs g k)) in
+      record {
+        null = result_null fact.result (code.results number fact e);
+        writes = λ more g v to w. (m.method, m.there, count, first more g, (code_type fact.result, m.gives ∙ result_some fact.result v, w));
+        unused = λ more g v. (m.method, m.there, count, first more g, m.gives ∙ result_none fact.result v);
+      }
+
+  method_means : (x : Expr) (of : Option Expr) (es : List Expr) (number : ℕ) (fact : MethodFact) (token : ℕ) → named_at F x.id ≡ named.Method number → by_number F.methods number ≡ Some fact → fact.result ≡ type_at F x.id
+      → ((o : Draft) → Stands o → FineReceiving o (static.Object fact.class) (received P false (option_map (part_of P) of) x.id o))
+      → ((types : List Static) (place : ℕ) (before : Counter) → AreWanted types place fact.params → AreValues fact.params → (o : Draft) → Stands o → FineArgs o fact.params (arguments P types place before (map (part_of P) es) o))
+      → Means (type_at F x.id) (call_low P (named_at F x.id) (option_map (part_of P) of) (map (part_of P) es) x.id token)
+  method_means x of es number fact token e k q receives takes =
+      let types = params_of F (named.Method number) in
+      let known : types ≡ fact.params = ap params_in k in
+      let args : (before : Counter) (o : Draft) → Stands o → FineArgs o fact.params (arguments P types 0 before (map (part_of P) es) o) = λ before o s. takes types 0 before (subst (λ ts. AreWanted ts 0 fact.params) (sym known) (all_wanted [] fact.params)) (are_values fact.params (λ place t h. code.params number place fact t k h)) o s in
+      subst (λ (n : Named). Means (type_at F x.id) (call_low P n (option_map (part_of P) of) (map (part_of P) es) x.id token)) (sym e)
+      (subst (λ t. Means t (call_low P (named.Method number) (option_map (part_of P) of) (map (part_of P) es) x.id token)) q
+       (called_means types of es (static.Object fact.class) fact.params fact.result x.id token (λ a xs. step.Call a number xs) q receives args (λ slots a xs h w. call_step number fact slots a xs k h w)))
+
+  first_fits : (t : Static) (slots : List Ty) (xs : List Operand) → ArgsFit slots (t ∷ []) xs → OperandFits slots t (first_of xs)
+  first_fits t slots [] h = absurd h
+  first_fits t slots (a ∷ xs) h = h.0
+
+  truth : IsPlain static.Boolean
+  truth = record { void = refl; null = refl }
+
+  -- a method of a text or of rows, as a step of its receiver and its arguments
+  library_means : (n : Named) (u : Static) (ts : List Static) (t : Static) → IsLibrary n u ts t → (of : Expr) (es : List Expr) (id token : ℕ) → t ≡ type_at F id
+      → ((o : Draft) → Stands o → FineReceiving o u (received P false (Some (part_of P of)) id o))
+      → ((types : List Static) (place : ℕ) (before : Counter) → AreWanted types place ts → AreValues ts → (o : Draft) → Stands o → FineArgs o ts (arguments P types place before (map (part_of P) es) o))
+      → Means t (call_low P n (Some (part_of P of)) (map (part_of P) es) id token)
+  library_means _ _ _ _ typing.IsLibrary.text_length of es id token q receives takes =
+      called_means [] (Some of) es static.Text [] static.Int id token (λ a xs. step.Op op.Length a None) q receives (λ before o s. takes [] 0 before tt tt o s)
+      (λ slots a xs h w. step_fits slots static.Int (step.Op op.Length a None) (record { void = refl; null = refl }) (λ more g to k. (ty.Text, ty.Text, ty.Int, ty_more slots more a ty.Text g (has_ty slots static.Text a h), refl, refl, k)))
+  library_means _ _ _ _ typing.IsLibrary.text_equals of es id token q receives takes =
+      called_means [] (Some of) es static.Text (static.Text ∷ []) static.Boolean id token (λ a xs. step.Op op.Equals a (Some (first_of xs))) q receives (λ before o s. takes [] 0 before (IsWanted.unknown refl (λ e. absurd (cc e)), tt) (refl, tt) o s)
+      (λ slots a xs h w. step_fits slots static.Boolean (step.Op op.Equals a (Some (first_of xs))) truth (λ more g to k. (ty.Text, ty.Text, ty.Bool, ty_more slots more a ty.Text g (has_ty slots static.Text a h), ty_more slots more (first_of xs) ty.Text g (has_ty slots static.Text (first_of xs) (first_fits static.Text slots xs w)), refl, k)))
+  library_means _ _ _ _ typing.IsLibrary.next of es id token q receives takes =
+      called_means [] (Some of) es static.ResultSet [] static.Boolean id token (λ a xs. step.Next a) q receives (λ before o s. takes [] 0 before tt tt o s)
+      (λ slots a xs h w. step_fits slots static.Boolean (step.Next a) truth (λ more g to k. (ty_more slots more a ty.Rows g (has_ty slots static.ResultSet a h), k)))
+  library_means _ _ _ _ typing.IsLibrary.get_long of es id token q receives takes =
+      called_means [] (Some of) es static.ResultSet (static.Int ∷ []) static.Long id token (λ a xs. step.Long a (first_of xs)) q receives (λ before o s. takes [] 0 before (IsWanted.unknown refl (λ e. absurd (cc e)), tt) (refl, tt) o s)
+      (λ slots a xs h w. step_fits slots static.Long (step.Long a (first_of xs)) (record { void = refl; null = refl }) (λ more g to k. (ty_more slots more a ty.Rows g (has_ty slots static.ResultSet a h), ty_more slots more (first_of xs) ty.Int g (has_ty slots static.Int (first_of xs) (first_fits static.Int slots xs w)), k)))
+  library_means _ _ _ _ typing.IsLibrary.get_string of es id token q receives takes =
+      called_means [] (Some of) es static.ResultSet (static.Int ∷ []) static.Text id token (λ a xs. step.Text a (first_of xs)) q receives (λ before o s. takes [] 0 before (IsWanted.unknown refl (λ e. absurd (cc e)), tt) (refl, tt) o s)
+      (λ slots a xs h w. step_fits slots static.Text (step.Text a (first_of xs)) (record { void = refl; null = refl }) (λ more g to k. (ty_more slots more a ty.Rows g (has_ty slots static.ResultSet a h), ty_more slots more (first_of xs) ty.Int g (has_ty slots static.Int (first_of xs) (first_fits static.Int slots xs w)), k)))
+
+  -- ---- calls of `Db`
+
+  abbrev Takes : Operation → List Expr → Type 0
+  Takes o es = (types : List Static) (place : ℕ) (before : Counter) → AreWanted types place o.params → AreValues o.params → (d : Draft) → Stands d → FineArgs d o.params (arguments P types place before (map (part_of P) es) d)
+
+  -- the parameters of a statement, as a call asks for them
+  taken : (o : Operation) (types : List Static) (es : List Expr) → types ≡ o.params → AreSendable o.params → Takes o es → (before : Counter) (d : Draft) → Stands d → FineArgs d o.params (arguments P types 0 before (map (part_of P) es) d)
+  taken o types es e sends takes before d s = takes types 0 before (subst (λ ts. AreWanted ts 0 o.params) (sym e) (all_wanted [] o.params)) (sendable_values o.params sends) d s
+
+  query_means : (x : Expr) (of : Option Expr) (written : Expr) (es : List Expr) (number site : ℕ) (o : Operation) (token : ℕ) → named_at F x.id ≡ named.Query number site → by_number F.operations number ≡ Some o → type_at F x.id ≡ static.ResultSet → AreSendable o.params → Takes o es
+      → Means (type_at F x.id) (call_low P (named_at F x.id) (option_map (part_of P) of) (map (part_of P) (written ∷ es)) x.id token)
+  query_means x of written es number site o token e k d sends takes =
+      let n = named.Query number site in
+      let types = params_of F n in
+      let there = code.sites x.id site (kind.Rows number) (ap site_of e) (ap (λ m. kind_of m (type_at F x.id)) e) in
+      let rows : is_query o.statement ≡ true = query_is o.statement ∙ code.queries x.id number site o e k in
+      let args = taken o types es (ap operands_in k) sends takes in
+      let fits : (slots : List Ty) (xs : List Operand) → ArgsFit slots o.params xs → StepFits P C gives slots static.ResultSet (step.Query number site xs) =
+          (λ slots xs w. step_fits slots static.ResultSet (step.Query number site xs) (record { void = refl; null = refl }) (λ more g to z. (o.statement, code.statements number o k, rows, there, args_sent more o.params xs sends (args_more slots more o.params xs g w), z))) in
+      subst (λ (m : Named). Means (type_at F x.id) (call_low P m (option_map (part_of P) of) (map (part_of P) (written ∷ es)) x.id token)) (sym e)
+      (subst (λ t. Means t (call_low P n (option_map (part_of P) of) (map (part_of P) (written ∷ es)) x.id token)) (sym d)
+       (asked_means types es o.params static.ResultSet x.id token (λ xs. step.Query number site xs) (sym d) args fits))
+
+  update_means : (x : Expr) (of : Option Expr) (written : Expr) (es : List Expr) (number : ℕ) (o : Operation) (token : ℕ) → named_at F x.id ≡ named.Update number → by_number F.operations number ≡ Some o → is_select o.statement ≡ false → type_at F x.id ≡ static.Int → AreSendable o.params → Takes o es
+      → Means (type_at F x.id) (call_low P (named_at F x.id) (option_map (part_of P) of) (map (part_of P) (written ∷ es)) x.id token)
+  update_means x of written es number o token e k c d sends takes =
+      let n = named.Update number in
+      let types = params_of F n in
+      let none : is_query o.statement ≡ false = query_is o.statement ∙ c in
+      let args = taken o types es (ap operands_in k) sends takes in
+      let fits : (slots : List Ty) (xs : List Operand) → ArgsFit slots o.params xs → StepFits P C gives slots static.Int (step.Update number xs) =
+          (λ slots xs w. step_fits slots static.Int (step.Update number xs) (record { void = refl; null = refl }) (λ more g to z. (o.statement, code.statements number o k, none, args_sent more o.params xs sends (args_more slots more o.params xs g w), z))) in
+      subst (λ (m : Named). Means (type_at F x.id) (call_low P m (option_map (part_of P) of) (map (part_of P) (written ∷ es)) x.id token)) (sym e)
+      (subst (λ t. Means t (call_low P n (option_map (part_of P) of) (map (part_of P) (written ∷ es)) x.id token)) (sym d)
+       (asked_means types es o.params static.Int x.id token (λ xs. step.Update number xs) (sym d) args fits))
+
+  -- ---- bare numbers
+
+  rolled : (x : Expr) (form : ExprForm) (y : ExprForm-F ExprForm Expr) → x.form ≡ form → form ≡ roll-ExprForm y → number_of x ≡ number_in y
+  rolled x form y h k = ap number_in (ap out-ExprForm (h ∙ k) ∙ out-roll-ExprForm y)
+
+  no_number : (x : Expr) (u : Static) → number_of x ≡ None → (v : Value) → number_of x ≡ Some v → IsNumberOf u v
+  no_number x u n v e = absurd (cc (sym n ∙ e))
+
+  number_is : (x : Expr) → IsTypedExpr F locals x → (v : Value) → number_of x ≡ Some v → IsNumberOf (type_at F x.id) v
+  number_is _ (typing.IsTypedExpr.number x digits long h e) = λ v k. record { digits = digits; long = long; value = ap some_value (sym k ∙ rolled x _ (f.Number digits long) h (sym (rolls-Number digits long))); ty = e }
+  number_is _ (typing.IsTypedExpr.text x bytes h e) = no_number x _ (rolled x _ (f.Str bytes) h (sym (rolls-Str bytes)))
+  number_is _ (typing.IsTypedExpr.truth x h e) = no_number x _ (rolled x _ f.True h (sym rolls-True))
+  number_is _ (typing.IsTypedExpr.falsehood x h e) = no_number x _ (rolled x _ f.False h (sym rolls-False))
+  number_is _ (typing.IsTypedExpr.null x h e) = no_number x _ (rolled x _ f.Null h (sym rolls-Null))
+  number_is _ (typing.IsTypedExpr.this x h e) = no_number x _ (rolled x _ f.This h (sym rolls-This))
+  number_is _ (typing.IsTypedExpr.variable x n h v) = no_number x _ (rolled x _ (f.Name n) h (sym (rolls-Name n)))
+  number_is _ (typing.IsTypedExpr.group x inner h e s) = no_number x _ (rolled x _ (f.Group inner) h (sym (rolls-Group inner)))
+  number_is _ (typing.IsTypedExpr.field x of n h m s) = no_number x _ (rolled x _ (f.Field of n) h (sym (rolls-Field of n)))
+  number_is _ (typing.IsTypedExpr.indexed x of index t h e d s i) = no_number x _ (rolled x _ (f.Index of index) h (sym (rolls-Index of index)))
+  number_is _ (typing.IsTypedExpr.call x of n args method fact h e k d r a) = no_number x _ (rolled x _ (f.Call of n args) h (sym (rolls-Call of n args)))
+  number_is _ (typing.IsTypedExpr.library x of n args params h l s a) = no_number x _ (rolled x _ (f.Call (Some of) n args) h (sym (rolls-Call (Some of) n args)))
+  number_is _ (typing.IsTypedExpr.query x of n written args number site o h e k d p a) = no_number x _ (rolled x _ (f.Call of n (written ∷ args)) h (sym (rolls-Call of n (written ∷ args))))
+  number_is _ (typing.IsTypedExpr.update x of n written args number o h e k c d p a) = no_number x _ (rolled x _ (f.Call of n (written ∷ args)) h (sym (rolls-Call of n (written ∷ args))))
+  number_is _ (typing.IsTypedExpr.new_object x n class site h e d) = no_number x _ (rolled x _ (f.NewObject n) h (sym (rolls-NewObject n)))
+  number_is _ (typing.IsTypedExpr.new_array x size b site t h e d s) = no_number x _ (rolled x _ (f.NewArray b size) h (sym (rolls-NewArray b size)))
+  number_is _ (typing.IsTypedExpr.prefix x y s h g k) = no_number x _ (rolled x _ (f.Prefix s y) h (sym (rolls-Prefix s y)))
+  number_is _ (typing.IsTypedExpr.binary x l r s at h g a b) = no_number x _ (rolled x _ (f.Binary s at l r) h (sym (rolls-Binary s at l r)))
+
+  -- ---- all expressions
+
+  asked : (x : Expr) → IsUsed F x → uses.IsAsked F x
+  asked _ (uses.IsUsed.used x a k) = a
+
+  part : (x y : Expr) → IsUsed F x → IsPart y x → IsUsed F y
+  part _ y (uses.IsUsed.used x a k) p = k y p
+
+  literal_typed : (slots : List Ty) (digits : List ℕ) (long : Bool) → OperandFits slots (literal_type long) (Literal (literal digits long))
+  literal_typed slots digits true = OperandFits.plain static.Long (Literal (literal digits true)) refl refl
+  literal_typed slots digits false = OperandFits.plain static.Int (Literal (literal digits false)) refl refl
+
+  library_void : (n : Named) (u : Static) (ts : List Static) (t : Static) → IsLibrary n u ts t → is_void u ≡ false
+  library_void _ _ _ _ typing.IsLibrary.text_length = refl
+  library_void _ _ _ _ typing.IsLibrary.text_equals = refl
+  library_void _ _ _ _ typing.IsLibrary.next = refl
+  library_void _ _ _ _ typing.IsLibrary.get_long = refl
+  library_void _ _ _ _ typing.IsLibrary.get_string = refl
+
+  mutual
+    pub expression_means : (x : Expr) → IsTypedExpr F locals x → IsUsed F x → Means (type_at F x.id) (says x)
+    expression_means _ (typing.IsTypedExpr.number x digits long h e) u =
+        means_by x (type_at F x.id) _ (low_number P x digits long h) (subst (λ t. Means t (valued (stands (literal digits long)) x.id x.token)) (sym e) (had_means (literal_type long) (stands (literal digits long)) x.id x.token (λ o s. literal_typed o.slots digits long)))
+    expression_means _ (typing.IsTypedExpr.text x bytes h e) u = means_by x (type_at F x.id) _ (low_text P x bytes h) (had_means (type_at F x.id) (stands (value.Text bytes)) x.id x.token (λ o s. subst (λ t. OperandFits o.slots t (Literal (value.Text bytes))) (sym e) (OperandFits.plain static.Text (Literal (value.Text bytes)) refl refl)))
+    expression_means _ (typing.IsTypedExpr.truth x h e) u = means_by x (type_at F x.id) _ (low_true P x h) (had_means (type_at F x.id) (stands (value.Bool true)) x.id x.token (λ o s. subst (λ t. OperandFits o.slots t (Literal (value.Bool true))) (sym e) (OperandFits.plain static.Boolean (Literal (value.Bool true)) refl refl)))
+    expression_means _ (typing.IsTypedExpr.falsehood x h e) u = means_by x (type_at F x.id) _ (low_false P x h) (had_means (type_at F x.id) (stands (value.Bool false)) x.id x.token (λ o s. subst (λ t. OperandFits o.slots t (Literal (value.Bool false))) (sym e) (OperandFits.plain static.Boolean (Literal (value.Bool false)) refl refl)))
+    expression_means _ (typing.IsTypedExpr.null x h e) u = means_by x (type_at F x.id) _ (low_null P x h) (had_means (type_at F x.id) (stands value.Null) x.id x.token (λ o s. subst (λ t. OperandFits o.slots t (Literal value.Null)) (sym e) (OperandFits.null static.Null tt)))
+    expression_means _ (typing.IsTypedExpr.this x h e) u = means_by x (type_at F x.id) _ (low_this P x h) (had_means (type_at F x.id) (Held (Slot 0)) x.id x.token (λ o s. slot_plain o.slots (type_at F x.id) 0 (values 0 (type_at F x.id) e) (s 0 (type_at F x.id) e)))
+    expression_means _ (typing.IsTypedExpr.variable x n h v) u = means_by x (type_at F x.id) _ (low_name P x n h) (had_means (type_at F x.id) (name_had P (named_at F x.id) x.id) x.id x.token (name_fits (named_at F x.id) (type_at F x.id) x.id v refl))
+    expression_means _ (typing.IsTypedExpr.group x inner h e s) u = means_by x (type_at F x.id) _ (low_group P x inner inner h refl) (subst (λ t. Means t (says inner)) e (expression_means inner s (part x inner u (uses.IsPart.grouped x inner h))))
+    expression_means _ (typing.IsTypedExpr.field x of n h m s) u = means_by x (type_at F x.id) _ (low_field P x of of n h refl) (λ o d.
+        let a = operand_means of (type_at F of.id) (expression_means of s (part x of u (uses.IsPart.holder x of n h))) (member_void (named_at F x.id) (type_at F of.id) (type_at F x.id) m) o d in
+        let y = operand_at P (part_of P of) o in
+        behind (type_at F x.id) _ x.id x.token o y.out a.goes (member_fits (named_at F x.id) (type_at F of.id) (type_at F x.id) x.id m refl y.out.slots y.operand of.id a.operand))
+    expression_means _ (typing.IsTypedExpr.indexed x of index t h e d s i) u =
+        means_by x (type_at F x.id) _ (low_index P x of of index index h refl refl)
+        (index_means x.id x.token t of index d (subst (λ w. Means w (says of)) e (expression_means of s (part x of u (uses.IsPart.array x of index h))))
+         (subst (λ w. Means w (says index)) ((asked x u).index of index h) (expression_means index i (part x index u (uses.IsPart.index x of index h)))))
+    expression_means _ (typing.IsTypedExpr.call x of n args method fact h e k d r a) u =
+        means_by x (type_at F x.id) _ (low_call P x of n args h)
+        (method_means x of args method fact x.token e k d (receiver_means (static.Object fact.class) of r (λ y q. part x y u (uses.IsPart.receiver x y n args (h ∙ ap (λ z. Call z n args) q))) refl x.id)
+         (arguments_mean fact.params args a (λ place y q. part x y u (uses.IsPart.argument x y of n args place h q))))
+    expression_means _ (typing.IsTypedExpr.library x of n args params h l s a) u =
+        means_by x (type_at F x.id) _ (low_call P x (Some of) n args h)
+        (library_means (named_at F x.id) (type_at F of.id) params (type_at F x.id) l of args x.id x.token refl
+         (λ o d. let b = operand_means of (type_at F of.id) (expression_means of s (part x of u (uses.IsPart.receiver x of n args h))) (library_void (named_at F x.id) (type_at F of.id) params (type_at F x.id) l) o d in record { goes = b.goes; operand = b.operand })
+         (arguments_mean params args a (λ place y q. part x y u (uses.IsPart.argument x y (Some of) n args place h q))))
+    expression_means _ (typing.IsTypedExpr.query x of n written args number site o h e k d p a) u =
+        means_by x (type_at F x.id) _ (low_call P x of n (written ∷ args) h)
+        (query_means x of written args number site o x.token e k d p ((arguments_mean o.params args a (λ place y q. part x y u (uses.IsPart.argument x y of n (written ∷ args) (suc place) h q)))))
+    expression_means _ (typing.IsTypedExpr.update x of n written args number o h e k c d p a) u =
+        means_by x (type_at F x.id) _ (low_call P x of n (written ∷ args) h)
+        (update_means x of written args number o x.token e k c d p ((arguments_mean o.params args a (λ place y q. part x y u (uses.IsPart.argument x y of n (written ∷ args) (suc place) h q)))))
+    expression_means _ (typing.IsTypedExpr.new_object x n class site h e d) u = means_by x (type_at F x.id) _ (low_new_object P x n h) (object_means (named_at F x.id) (type_at F x.id) x.id x.token class site refl e refl d)
+    expression_means _ (typing.IsTypedExpr.new_array x size b site t h e d s) u =
+        means_by x (type_at F x.id) _ (low_new_array P x size size b h refl)
+        (array_means x.id x.token site t size e d (subst (λ w. Means w (says size)) ((asked x u).size b size h) (expression_means size s (part x size u (uses.IsPart.size x size b h)))))
+    expression_means _ (typing.IsTypedExpr.prefix x y s h g k) u =
+        means_by x (type_at F x.id) _ (low_prefix P x y y s h refl)
+        (prefix_means (literal_behind s (number_of y)) (prefix_of s (type_at F y.id)) y (type_at F y.id) (type_at F x.id) x.id x.token refl g (prefix_joins_none s (type_at F y.id))
+         (λ v e slots. literal_fits s (number_of y) (type_at F y.id) (type_at F x.id) slots g (number_is y k) v e) (expression_means y k (part x y u (uses.IsPart.operand x y s h))))
+    expression_means _ (typing.IsTypedExpr.binary x l r s at h g a b) u =
+        means_by x (type_at F x.id) _ (low_binary P x l r l r s at h refl refl)
+        (binary_means s l r (type_at F l.id) (type_at F r.id) (type_at F x.id) x.id x.token refl (sign_is s (type_at F l.id) (type_at F r.id) (type_at F x.id) g) refl refl ((asked x u).choice s at l r h) ((asked x u).joined s at l r h)
+         (expression_means l a (part x l u (uses.IsPart.left x l r s at h))) (expression_means r b (part x r u (uses.IsPart.right x l r s at h))))
+
+    receiver_means : (t : Static) (of : Option Expr) → IsReceiver F locals t of → ((y : Expr) → of ≡ Some y → IsUsed F y) → is_void t ≡ false → (id : ℕ) (o : Draft) → Stands o → FineReceiving o t (received P false (option_map (part_of P) of) id o)
+    receiver_means _ _ (typing.IsReceiver.own t e) u v id o s = record { goes = goes_none P C gives o; operand = slot_plain o.slots t 0 (values 0 t e) (s 0 t e) }
+    receiver_means _ _ (typing.IsReceiver.of t x e k) u v id o s =
+        let a = operand_means x t (subst (λ w. Means w (says x)) e (expression_means x k (u x refl))) v o s in
+        record { goes = a.goes; operand = a.operand }
+
+    arguments_mean : (ts : List Static) (es : List Expr) → AreArguments F locals ts es → ((place : ℕ) (y : Expr) → slice_get es place ≡ Some y → IsUsed F y) → (types : List Static) (place : ℕ) (before : Counter) → AreWanted types place ts → AreValues ts → (o : Draft) → Stands o → FineArgs o ts (arguments P types place before (map (part_of P) es) o)
+    arguments_mean _ _ typing.AreArguments.none u types place before w v o s = record { goes = goes_none P C gives o; args = tt }
+    arguments_mean _ _ (typing.AreArguments.more t ts x xs k d a) u types place before w v o s =
+        one_more_fine x (slice_index_or types place static.Unknown) t ts o s w.0 v.0 k (expression_means x d (u 0 x refl)) (arguments P types (place + 1) (Completed x.id) (map (part_of P) xs))
+        (λ d s. arguments_mean ts xs a (λ place y q. u (suc place) y q) types (place + 1) (Completed x.id) w.1 v.1 d s)
