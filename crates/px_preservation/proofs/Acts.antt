@@ -1,5 +1,5 @@
 -- Acts that make no object of a class are the same in all programs.
-use Rattle.std.proofs.Common.{◌≡◌, ℕ, suc, List, [], ◌∷◌, ◌++◌, length, map, Option, Some, None, Result, Ok, Err, refl, sym, ap, ◌∙◌, subst}
+use Rattle.std.proofs.Common.{◌≡◌, ℕ, suc, List, [], ◌∷◌, ◌++◌, length, Option, Some, None, Result, Ok, Err, refl, sym, ap, ◌∙◌}
 use Rattle.px_value.specs.declared.value.Value.{Value}
 use Rattle.px_value.specs.declared.thrown.Thrown.{Thrown}
 use Rattle.px_value.specs.declared.header.Header.{Header}
@@ -8,12 +8,12 @@ use Rattle.px_value.specs.declared.statement.Statement.{Statement}
 use Rattle.px_value.specs.declared.answer.Answer.{Answer}
 use Rattle.px_value.specs.declared.answer.Answer.TheVariants.{Rows, Count, Refused}
 use Rattle.px_value.specs.Outcome.{Outcome, Gives, Throws, Asks, then_run}
-use Rattle.px_effects.specs.Run.{Shared, There, Ask}
+use Rattle.px_effects.specs.Run.{Shared, Ask}
 use Rattle.px_effects.specs.Act.{Act, Comes, Prints, Reads, Writes, Looks, Makes, Firsts, Acted, value_at, header_at, has_no_room, unless_full, also_read, also_wrote, acted, settled, does}
-use Rattle.px_effects.specs.Cells.{Fresh, first_cells, reference, comes, or_throws, place_of, length_in, array_size, get_field, put_field, array_length, load, store, make_object, make_array, print_line}
+use Rattle.px_effects.specs.Cells.{Fresh, first_cells, reference, or_throws, place_of, length_in, array_size, get_field, put_field, array_length, load, store, make_object, make_array}
 use Rattle.px_effects.specs.Rows.{Statements, next, get_column, cell_in, standing, width_at, all_written, make_rows, changed}
 use Rattle.px_effects.specs.Operations.{Work, Acts, Operates, operation, operates_on, sent, told, with_said, works, Said, Answers, Out}
-use Rattle.px_semantics.specs.Effects.{no_object, fresh_with, new_object}
+use Rattle.px_semantics.specs.Effects.{no_object}
 
 -- the same first cells wherever it makes an object
 abbrev pub MakesSame : Firsts → Firsts → Act → Type 0

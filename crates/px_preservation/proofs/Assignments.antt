@@ -1,26 +1,21 @@
 -- What assigns, prints, or does something else for its effect alone.
-use Rattle.std.proofs.Common.{◌≡◌, ℕ, zero, suc, ◌+◌, ◌<◌, ◌≤◌, ◌⊎◌, Bool, false, List, [], ◌∷◌, ◌++◌, length, Option, Some, None, unwrap_or, slice_get, slice_set, Ok, Err, refl, sym, ap, ◌∙◌, subst, arith, inl, inr, append-nil, le_of_eq, le_trans, lt_of_lt_of_le}
+use Rattle.std.proofs.Common.{◌≡◌, ℕ, zero, suc, ◌+◌, ◌<◌, ◌≤◌, ◌⊎◌, false, List, [], ◌∷◌, ◌++◌, length, Option, Some, None, unwrap_or, slice_get, slice_set, refl, sym, ap, ◌∙◌, subst, arith, inl, inr, append-nil, le_of_eq, le_trans, lt_of_lt_of_le}
 use Rattle.std.proofs.lemmas.Option.{slice_get_within}
 use Rattle.px_value.specs.declared.value.Value.{Value}
 use Rattle.px_value.specs.declared.value.Value.TheVariants.{Null}
-use Rattle.px_value.specs.declared.op.Op.{Op}
-use Rattle.px_value.specs.Operators.{Applied, apply}
-use Rattle.px_value.specs.Outcome.{Outcome, Gives, Throws, Asks, Run, then_run, ◌>>=◌, pure, beside, on_shared, Flow, Goes, Returns, goes_on}
+use Rattle.px_value.specs.Outcome.{Outcome, Gives, Throws, Asks, Run, then_run, ◌>>=◌, pure, beside, on_shared, Flow, Goes}
 use Rattle.px_facts.specs.declared.checked.Checked.{Checked}
-use Rattle.px_facts.specs.declared.checked.Named.{Named}
-use Rattle.px_facts.specs.declared.checked.Named.TheVariants as named
-use Rattle.px_effects.specs.Run.{Shared, Ask, came_to}
-use Rattle.px_effects.specs.Act.{Act, Comes, does}
+use Rattle.px_effects.specs.Run.{Ask}
+use Rattle.px_effects.specs.Act.{Act, does}
 use Rattle.px_effects.specs.Cells as cells
 use Rattle.px_effects.specs.Cells.{first_cells}
 use Rattle.px_effects.specs.Operations.{Acts}
 use Rattle.px_semantics.specs.Run.{Frame as SourceFrame, Here as SourceHere, with_slots}
 use Rattle.px_semantics.specs.Effects.{no_object, only_acts, put_field, store, print_line}
-use Rattle.px_semantics.specs.Expressions.{Calls as SourceCalls, this_value, slot_value, assign_slot}
-use Rattle.px_semantics.specs.Statements.{goes, change_local}
+use Rattle.px_semantics.specs.Expressions.{Calls as SourceCalls, this_value}
+use Rattle.px_semantics.specs.Statements.{goes}
 use Rattle.px_normal.specs.declared.ty.Ty.{Ty}
-use Rattle.px_normal.specs.declared.word.Operand.{Operand}
-use Rattle.px_normal.specs.declared.word.Operand.TheVariants.{Slot, Literal}
+use Rattle.px_normal.specs.declared.word.Operand.TheVariants.{Slot}
 use Rattle.px_normal.specs.declared.word.Word.{Word}
 use Rattle.px_normal.specs.declared.word.Word.TheVariants as w
 use Rattle.px_normal.specs.declared.node.Counter.{Counter}
@@ -30,17 +25,18 @@ use Rattle.px_normal.specs.declared.code.Code.{Code}
 use Rattle.px_normal.specs.First.{fresh_of}
 use Rattle.px_normal.specs.Run.{Frame}
 use Rattle.px_normal.specs.Words.{Does, Works, does_of, operand, to_of, with_slot, is_return, result_of}
-use Rattle.px_normal.specs.CodeRun.{Calls, flow_if, act_run, does_run, word_run, body_run}
+use Rattle.px_normal.specs.CodeRun.{Calls, flow_if, act_run, does_run, body_run}
 use Rattle.px_lowering.specs.declared.draft.Draft.{Draft}
 use Rattle.px_lowering.specs.Emit.{Operated, emitted}
-use Rattle.px_preservation.proofs.Meets.{Meets, meets_at, meets_more, meets_source}
-use Rattle.px_preservation.proofs.Agree.{Agree, After, Wrote, Shares, IsBelow, IsDone}
-use Rattle.px_preservation.proofs.Slots.{set_length, set_other, set_here}
+use Rattle.px_preservation.proofs.Meets.{Meets, meets_at, meets_source}
+use Rattle.px_preservation.proofs.Agree.{Agree, Shares, IsDone}
+use Rattle.px_preservation.proofs.Slots.{set_other, set_here}
 use Rattle.px_preservation.proofs.Acts.{does_same, Plain, plain_put, plain_store}
 use Rattle.px_preservation.proofs.Words.{act_meets}
-use Rattle.px_preservation.proofs.Operands.{IsOperand, IsSlotted}
+use Rattle.px_preservation.proofs.Operands.{IsOperand}
 use Rattle.px_preservation.proofs.Runs.{run_do, run_one}
-use Rattle.px_preservation.proofs.Sequences.{agree_after, operand_kept, below_more, grows, joined, Done, runs, then_operand}
+use Rattle.px_preservation.proofs.Afters.{agree_after, behind, below_more, grown, operand_after}
+use Rattle.px_preservation.proofs.Sequences.{Done, then_operand}
 
 -- ---- a local is written
 
@@ -123,7 +119,7 @@ module _ (Q W : Type 0) (ask : Ask Q W) (P : Checked) (code : Code) (source_call
   -- ---- behind operands
 
   at_end : (o o' : Draft) (before : List Tree) (word : Word) (token : ℕ) (counter : Counter) → o'.trees ≡ o.trees ++ before → (emitted P word token counter o').trees ≡ o.trees ++ (before ++ Do (length o'.nodes + 1) word ∷ [])
-  at_end o o' before word token counter h = joined o.trees o'.trees (emitted P word token counter o').trees before (Do (length o'.nodes + 1) word ∷ []) h refl
+  at_end o o' before word token counter h = behind o.trees o'.trees (emitted P word token counter o').trees before (Do (length o'.nodes + 1) word ∷ []) h refl
 
   pub print_put : (r : SourceHere Q W Value) (o : Draft) (x : Operated) (token : ℕ) (counter : Counter) → n ≤ length o.slots → IsOperand Q W ask P code source_calls calls n r o x → IsPut (r >>= (λ v. on_shared (print_line v))) o (emitted P (w.Print x.operand) token counter x.out)
   print_put r o x token counter le i =
@@ -150,7 +146,7 @@ module _ (Q W : Type 0) (ask : Ask Q W) (P : Checked) (code : Code) (source_call
         method_is = i.method_is;
         meets = λ s c g size. then_operand Q W ask P code source_calls calls n rr o x i le (Do (length x.out.nodes + 1) word ∷ []) (λ v. on_shared (put_field (unwrap_or (slice_get s.locals 0) Null) place v)) (Put c) s c g size
             (λ v s1 c1 g1 a1 e1.
-            let of : operand c1.locals (Slot 0) ≡ unwrap_or (slice_get s.locals 0) Null = operand_kept W (length o.slots) s s1 c c1 (Slot 0) (lt_of_lt_of_le some le) a1 ∙ ap (λ (z : Option Value). unwrap_or z Null) (sym (g.locals 0 some)) in
+            let of : operand c1.locals (Slot 0) ≡ unwrap_or (slice_get s.locals 0) Null = operand_after W (length o.slots) s s1 c c1 (Slot 0) (lt_of_lt_of_le some le) a1 ∙ ap (λ (z : Option Value). unwrap_or z Null) (sym (g.locals 0 some)) in
             only_meets (length x.out.nodes + 1) word (cells.put_field (unwrap_or (slice_get s.locals 0) Null) place v) s1 c c1 g1 a1.size (plain_put (fresh_of code) _ place v) refl refl (λ t. Works (Acts (cells.put_field (of t) place (e1 t)))));
       }
 
@@ -159,17 +155,17 @@ module _ (Q W : Type 0) (ask : Ask Q W) (P : Checked) (code : Code) (source_call
   field_put r rr o a x class place token counter le i j =
       let word = w.Put a.operand class place x.operand in
       let us = Do (length x.out.nodes + 1) word ∷ [] in
-      let le1 : n ≤ length a.out.slots = le_trans le (grows o.slots a.out.slots i.temps i.slots_are) in
+      let le1 : n ≤ length a.out.slots = le_trans le (grown o.slots a.out.slots i.temps i.slots_are) in
       record {
         trees = i.trees ++ (j.trees ++ us);
         temps = i.temps ++ j.temps;
-        trees_are = joined o.trees a.out.trees (emitted P word token counter x.out).trees i.trees (j.trees ++ us) i.trees_are (at_end a.out x.out j.trees word token counter j.trees_are);
-        slots_are = joined o.slots a.out.slots x.out.slots i.temps j.temps i.slots_are j.slots_are;
+        trees_are = behind o.trees a.out.trees (emitted P word token counter x.out).trees i.trees (j.trees ++ us) i.trees_are (at_end a.out x.out j.trees word token counter j.trees_are);
+        slots_are = behind o.slots a.out.slots x.out.slots i.temps j.temps i.slots_are j.slots_are;
         method_is = j.method_is ∙ i.method_is;
-        meets = λ s c g size. then_operand Q W ask P code source_calls calls n r o a i le (j.trees ++ us) (λ of. rr >>= (λ v. on_shared (put_field of place v))) (Put c) s c g (le_trans (grows a.out.slots x.out.slots j.temps j.slots_are) size)
+        meets = λ s c g size. then_operand Q W ask P code source_calls calls n r o a i le (j.trees ++ us) (λ of. rr >>= (λ v. on_shared (put_field of place v))) (Put c) s c g (le_trans (grown a.out.slots x.out.slots j.temps j.slots_are) size)
             (λ of s1 c1 g1 a1 e1. then_operand Q W ask P code source_calls calls n rr a.out x j le1 us (λ v. on_shared (put_field of place v)) (Put c) s1 c1 g1 (le_trans size (le_of_eq (sym a1.size)))
             (λ v s2 c2 g2 a2 e2.
-            let of_is : operand c2.locals a.operand ≡ of = operand_kept W (length a.out.slots) s1 s2 c1 c2 a.operand i.below a2 ∙ e1 in
+            let of_is : operand c2.locals a.operand ≡ of = operand_after W (length a.out.slots) s1 s2 c1 c2 a.operand i.below a2 ∙ e1 in
             only_meets (length x.out.nodes + 1) word (cells.put_field of place v) s2 c c2 g2 (a2.size ∙ a1.size) (plain_put (fresh_of code) of place v) refl refl (λ t. Works (Acts (cells.put_field (of_is t) place (e2 t))))));
       }
 
@@ -178,23 +174,23 @@ module _ (Q W : Type 0) (ask : Ask Q W) (P : Checked) (code : Code) (source_call
   element_put r k rr o a b x token counter le i j l =
       let word = w.Store a.operand b.operand x.operand in
       let us = Do (length x.out.nodes + 1) word ∷ [] in
-      let le1 : n ≤ length a.out.slots = le_trans le (grows o.slots a.out.slots i.temps i.slots_are) in
-      let le2 : n ≤ length b.out.slots = le_trans le1 (grows a.out.slots b.out.slots j.temps j.slots_are) in
+      let le1 : n ≤ length a.out.slots = le_trans le (grown o.slots a.out.slots i.temps i.slots_are) in
+      let le2 : n ≤ length b.out.slots = le_trans le1 (grown a.out.slots b.out.slots j.temps j.slots_are) in
       record {
         trees = i.trees ++ (j.trees ++ (l.trees ++ us));
         temps = i.temps ++ (j.temps ++ l.temps);
-        trees_are = joined o.trees a.out.trees (emitted P word token counter x.out).trees i.trees (j.trees ++ (l.trees ++ us)) i.trees_are (joined a.out.trees b.out.trees (emitted P word token counter x.out).trees j.trees (l.trees ++ us) j.trees_are (at_end b.out x.out l.trees word token counter l.trees_are));
-        slots_are = joined o.slots a.out.slots x.out.slots i.temps (j.temps ++ l.temps) i.slots_are (joined a.out.slots b.out.slots x.out.slots j.temps l.temps j.slots_are l.slots_are);
+        trees_are = behind o.trees a.out.trees (emitted P word token counter x.out).trees i.trees (j.trees ++ (l.trees ++ us)) i.trees_are (behind a.out.trees b.out.trees (emitted P word token counter x.out).trees j.trees (l.trees ++ us) j.trees_are (at_end b.out x.out l.trees word token counter l.trees_are));
+        slots_are = behind o.slots a.out.slots x.out.slots i.temps (j.temps ++ l.temps) i.slots_are (behind a.out.slots b.out.slots x.out.slots j.temps l.temps j.slots_are l.slots_are);
         method_is = l.method_is ∙ j.method_is ∙ i.method_is;
         meets = λ s c g size.
-            let size2 : length b.out.slots ≤ length c.locals = le_trans (grows b.out.slots x.out.slots l.temps l.slots_are) size in
-            let size1 : length a.out.slots ≤ length c.locals = le_trans (grows a.out.slots b.out.slots j.temps j.slots_are) size2 in
+            let size2 : length b.out.slots ≤ length c.locals = le_trans (grown b.out.slots x.out.slots l.temps l.slots_are) size in
+            let size1 : length a.out.slots ≤ length c.locals = le_trans (grown a.out.slots b.out.slots j.temps j.slots_are) size2 in
             then_operand Q W ask P code source_calls calls n r o a i le (j.trees ++ (l.trees ++ us)) (λ of. k >>= (λ index. rr >>= (λ v. on_shared (store of index v)))) (Put c) s c g size1
             (λ of s1 c1 g1 a1 e1. then_operand Q W ask P code source_calls calls n k a.out b j le1 (l.trees ++ us) (λ index. rr >>= (λ v. on_shared (store of index v))) (Put c) s1 c1 g1 (le_trans size2 (le_of_eq (sym a1.size)))
             (λ index s2 c2 g2 a2 e2. then_operand Q W ask P code source_calls calls n rr b.out x l le2 us (λ v. on_shared (store of index v)) (Put c) s2 c2 g2 (le_trans size (le_of_eq (sym (a2.size ∙ a1.size))))
             (λ v s3 c3 g3 a3 e3.
-            let of_is : operand c3.locals a.operand ≡ of = operand_kept W (length b.out.slots) s2 s3 c2 c3 a.operand (below_more (length a.out.slots) (length b.out.slots) a.operand (grows a.out.slots b.out.slots j.temps j.slots_are) i.below) a3 ∙ operand_kept W (length a.out.slots) s1 s2 c1 c2 a.operand i.below a2 ∙ e1 in
-            let index_is : operand c3.locals b.operand ≡ index = operand_kept W (length b.out.slots) s2 s3 c2 c3 b.operand j.below a3 ∙ e2 in
+            let of_is : operand c3.locals a.operand ≡ of = operand_after W (length b.out.slots) s2 s3 c2 c3 a.operand (below_more W (length a.out.slots) (length b.out.slots) a.operand (grown a.out.slots b.out.slots j.temps j.slots_are) i.below) a3 ∙ operand_after W (length a.out.slots) s1 s2 c1 c2 a.operand i.below a2 ∙ e1 in
+            let index_is : operand c3.locals b.operand ≡ index = operand_after W (length b.out.slots) s2 s3 c2 c3 b.operand j.below a3 ∙ e2 in
             only_meets (length x.out.nodes + 1) word (cells.store of index v) s3 c c3 g3 (a3.size ∙ a2.size ∙ a1.size) (plain_store (fresh_of code) of index v) refl refl (λ t. Works (Acts (cells.store (of_is t) (index_is t) (e3 t)))))));
       }
 
@@ -211,14 +207,14 @@ module _ (Q W : Type 0) (ask : Ask Q W) (P : Checked) (code : Code) (source_call
 
   pub two_put : (r rr : SourceHere Q W Value) (o : Draft) (a x : Operated) → n ≤ length o.slots → IsOperand Q W ask P code source_calls calls n r o a → IsOperand Q W ask P code source_calls calls n rr a.out x → IsPut (r >>= (λ of. rr >>= (λ v. pure tt))) o x.out
   two_put r rr o a x le i j =
-      let le1 : n ≤ length a.out.slots = le_trans le (grows o.slots a.out.slots i.temps i.slots_are) in
+      let le1 : n ≤ length a.out.slots = le_trans le (grown o.slots a.out.slots i.temps i.slots_are) in
       record {
         trees = i.trees ++ j.trees;
         temps = i.temps ++ j.temps;
-        trees_are = joined o.trees a.out.trees x.out.trees i.trees j.trees i.trees_are j.trees_are;
-        slots_are = joined o.slots a.out.slots x.out.slots i.temps j.temps i.slots_are j.slots_are;
+        trees_are = behind o.trees a.out.trees x.out.trees i.trees j.trees i.trees_are j.trees_are;
+        slots_are = behind o.slots a.out.slots x.out.slots i.temps j.temps i.slots_are j.slots_are;
         method_is = j.method_is ∙ i.method_is;
-        meets = λ s c g size. then_operand Q W ask P code source_calls calls n r o a i le j.trees (λ of. rr >>= (λ v. pure tt)) (Put c) s c g (le_trans (grows a.out.slots x.out.slots j.temps j.slots_are) size)
+        meets = λ s c g size. then_operand Q W ask P code source_calls calls n r o a i le j.trees (λ of. rr >>= (λ v. pure tt)) (Put c) s c g (le_trans (grown a.out.slots x.out.slots j.temps j.slots_are) size)
             (λ of s1 c1 g1 a1 e1. meets_source (rr s1) (body_run code ask calls j.trees c1) _ (Shares W) (λ v. pure tt) (Put c) (Shares W) (j.meets s1 c1 g1 (le_trans size (le_of_eq (sym a1.size))))
             (λ v s2 f c2 q. (tt, s2, refl, (q.0, agree_after W n (length a.out.slots) s1 s2 c1 c2 le1 g1 q.1, q.1.size ∙ a1.size))) (λ s c e. e));
       }

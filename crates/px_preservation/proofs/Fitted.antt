@@ -1,11 +1,10 @@
 -- An int where a long is wanted, and several operands before a last statement.
-use Rattle.std.proofs.Common.{◌≡◌, ℕ, ◌+◌, ◌<◌, ◌≤◌, Bool, true, false, List, [], ◌∷◌, ◌++◌, append_assoc, append-nil, length, length-append, Option, Some, None, Ok, Err, refl, sym, ap, ◌∙◌, subst, arith, ℤ}
+use Rattle.std.proofs.Common.{◌≡◌, ℕ, ◌≤◌, List, [], ◌∷◌, ◌++◌, append_assoc, length, None, Ok, Err, refl, sym, ap, ◌∙◌, subst, arith, ℤ}
 use Rattle.px_value.specs.declared.value.Value.{Value}
 use Rattle.px_value.specs.declared.value.Value.TheVariants.{Int, Long, Bool as Truth, Text, Ref, Null}
-use Rattle.px_value.specs.declared.op.Op.{Op}
 use Rattle.px_value.specs.declared.op.Op.TheVariants as op
 use Rattle.px_value.specs.Operators.{Applied, apply}
-use Rattle.px_value.specs.Outcome.{Outcome, Gives, Throws, Asks, then_run, ◌>>=◌, pure, beside, on_shared, Flow, Goes, goes_on}
+use Rattle.px_value.specs.Outcome.{Outcome, Gives, Throws, Asks, then_run, ◌>>=◌, pure, on_shared, Flow, Goes}
 use Rattle.px_facts.specs.declared.types.Ty.{Ty as Static}
 use Rattle.px_facts.specs.declared.types.Ty.TheVariants as static
 use Rattle.px_facts.specs.declared.checked.Checked.{Checked}
@@ -17,7 +16,6 @@ use Rattle.px_semantics.specs.Run.{Frame as SourceFrame, Here as SourceHere}
 use Rattle.px_semantics.specs.Expressions.{Calls as SourceCalls, fit}
 use Rattle.px_normal.specs.declared.ty.Ty.{Ty}
 use Rattle.px_normal.specs.declared.ty.Ty.TheVariants as ty
-use Rattle.px_normal.specs.declared.word.Operand.{Operand}
 use Rattle.px_normal.specs.declared.word.Operand.TheVariants.{Slot, Literal}
 use Rattle.px_normal.specs.declared.method.Tree.{Tree}
 use Rattle.px_normal.specs.declared.method.Tree.TheVariants.{Do}
@@ -32,12 +30,12 @@ use Rattle.px_lowering.specs.declared.valued.Step.{Step}
 use Rattle.px_lowering.specs.declared.valued.Step.TheVariants as step
 use Rattle.px_lowering.specs.declared.valued.Had.{Had}
 use Rattle.px_lowering.specs.declared.valued.Had.TheVariants.{Held, Chosen, Made}
-use Rattle.px_lowering.specs.Emit.{Lasted, Operated, operated, operand_of, widened_operand, widened, fitted}
+use Rattle.px_lowering.specs.Emit.{Lasted, Operated, operated, widened_operand, widened, fitted}
 use Rattle.px_preservation.proofs.Meets.{Meets, meets_at, meets_source}
 use Rattle.px_preservation.proofs.Words.{step_source, step_ends}
 use Rattle.px_preservation.proofs.Afters.{behind, grown, after_then, agree_after, operand_after, below_more}
 use Rattle.px_preservation.proofs.Operands.{IsOperand, then_operand, operand_is, made_one}
-use Rattle.px_preservation.proofs.Agree.{Agree, After, Wrote, Shares, IsBelow, IsStepBelow, IsHadBelow, CallsMeet, ComesTo, HadMeets, IsLowered}
+use Rattle.px_preservation.proofs.Agree.{After, Wrote, Shares, IsBelow, IsStepBelow, CallsMeet, ComesTo, HadMeets, IsLowered}
 
 pub then_pure : {Q S A : Type 0} (o : Outcome Q S A) → then_run o pure ≡ o
 then_pure (Gives a s) = refl

@@ -1,9 +1,9 @@
 -- The code of all methods does what the methods do.
-use Rattle.std.proofs.Common.{◌≡◌, ℕ, zero, suc, ◌+◌, ◌<◌, ◌≤◌, Bool, true, false, List, [], ◌∷◌, ◌++◌, map, drop, length, Option, Some, None, slice_get, refl, sym, ap, ◌∙◌, subst, arith, le_of_eq}
+use Rattle.std.proofs.Common.{◌≡◌, ℕ, zero, suc, ◌+◌, ◌<◌, Bool, true, false, List, [], ◌∷◌, ◌++◌, map, drop, length, Option, Some, None, slice_get, refl, sym, ap, ◌∙◌, subst, arith, le_of_eq}
 use Rattle.px_value.specs.declared.value.Value.{Value}
 use Rattle.px_value.specs.declared.value.Value.TheVariants.{Ref}
 use Rattle.px_value.specs.declared.object.Object.{Object}
-use Rattle.px_value.specs.Outcome.{Outcome, Gives, Throws, Asks, then_run, State, Flow, Goes, Returns, goes_on}
+use Rattle.px_value.specs.Outcome.{Outcome, Gives, Throws, Asks, then_run, Flow, Goes, Returns, goes_on}
 use Rattle.px_tree.specs.declared.Method.{Method}
 use Rattle.px_facts.specs.declared.types.Ty.{Ty as Static}
 use Rattle.px_facts.specs.declared.types.Ty.TheVariants as static
@@ -11,7 +11,7 @@ use Rattle.px_facts.specs.declared.checked.MethodFact.{MethodFact}
 use Rattle.px_facts.specs.declared.checked.Checked.{Checked}
 use Rattle.px_effects.specs.Run.{Shared, Ask}
 use Rattle.px_semantics.specs.Run.{Frame as SourceFrame}
-use Rattle.px_semantics.specs.Facts.{default_of, by_number}
+use Rattle.px_semantics.specs.Facts.{by_number}
 use Rattle.px_semantics.specs.Expressions.{Calls as SourceCalls}
 use Rattle.px_semantics.specs.Statements.{done_by}
 use Rattle.px_semantics.specs.Calls as source
@@ -33,7 +33,7 @@ use Rattle.px_lowering.specs.Types.{code_type}
 use Rattle.px_lowering.specs.Statements.{completes, low_stmt}
 use Rattle.px_lowering.specs.Programs.{first_types, begun, ended, lowered_body, method_of, lowered}
 use Rattle.px_preservation.proofs.Meets.{Meets, meets_at, meets_more}
-use Rattle.px_preservation.proofs.Agree.{Agree, CallsMeet, IsDone, LowersStatement}
+use Rattle.px_preservation.proofs.Agree.{Agree, CallsMeet, LowersStatement}
 use Rattle.px_preservation.proofs.Runs.{run_do, run_append, run_one}
 use Rattle.px_preservation.proofs.Program.{same_default, IsMethod, there, no_method, no_fact, method_of_code}
 

@@ -6,6 +6,11 @@ pub mod Acts
 pub mod Words
 pub mod Operands
 pub mod Fitted
+pub mod Choices
+pub mod Parts
+pub mod Arguments
+pub mod Invoked
+pub mod Expressions
 pub mod Program
 pub mod Runs
 pub mod SourceForms
@@ -14,3 +19,6 @@ pub mod Sequences
 pub mod Assignments
 pub mod Locals
 pub mod Loops
+pub mod Places
+pub mod Statements
+pub mod Whole

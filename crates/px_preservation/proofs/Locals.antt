@@ -1,10 +1,10 @@
 -- What writes a local.
-use Rattle.std.proofs.Common.{◌≡◌, ℕ, ◌+◌, ◌<◌, ◌≤◌, List, [], ◌∷◌, ◌++◌, length, Option, Some, None, unwrap_or, slice_get, slice_set, Ok, Err, refl, sym, ap, ◌∙◌, append-nil, le_of_eq, le_trans, lt_of_lt_of_le}
+use Rattle.std.proofs.Common.{◌≡◌, ℕ, ◌+◌, ◌<◌, ◌≤◌, List, [], ◌∷◌, ◌++◌, length, Option, Some, unwrap_or, slice_get, slice_set, Ok, Err, refl, sym, ap, ◌∙◌, append-nil, le_of_eq, le_trans, lt_of_lt_of_le}
 use Rattle.px_value.specs.declared.value.Value.{Value}
 use Rattle.px_value.specs.declared.value.Value.TheVariants.{Null}
 use Rattle.px_value.specs.declared.op.Op.{Op}
 use Rattle.px_value.specs.Operators.{Applied, apply}
-use Rattle.px_value.specs.Outcome.{◌>>=◌, pure, Flow, Goes}
+use Rattle.px_value.specs.Outcome.{◌>>=◌, pure}
 use Rattle.px_facts.specs.declared.checked.Checked.{Checked}
 use Rattle.px_effects.specs.Run.{Ask, came_to}
 use Rattle.px_effects.specs.Act.{Comes}
@@ -22,11 +22,12 @@ use Rattle.px_normal.specs.CodeRun.{Calls, act_run, body_run}
 use Rattle.px_lowering.specs.declared.draft.Draft.{Draft}
 use Rattle.px_lowering.specs.Emit.{Operated, emitted}
 use Rattle.px_preservation.proofs.Meets.{Meets, meets_at, meets_source}
-use Rattle.px_preservation.proofs.Agree.{Agree, After, Wrote, Shares}
+use Rattle.px_preservation.proofs.Agree.{Agree, Wrote, Shares}
 use Rattle.px_preservation.proofs.Slots.{set_length, set_other, set_here}
 use Rattle.px_preservation.proofs.Operands.{IsOperand, IsSlotted}
 use Rattle.px_preservation.proofs.Runs.{run_do, run_one}
-use Rattle.px_preservation.proofs.Sequences.{operand_kept, grows, joined, then_operand}
+use Rattle.px_preservation.proofs.Afters.{behind, grown, operand_after}
+use Rattle.px_preservation.proofs.Sequences.{then_operand}
 use Rattle.px_preservation.proofs.Assignments.{is_there, agree_set, Put, IsPut}
 
 module _ (Q W : Type 0) (ask : Ask Q W) (P : Checked) (code : Code) (source_calls : SourceCalls Q W) (calls : Calls Q W) (n : ℕ) where
@@ -47,7 +48,7 @@ module _ (Q W : Type 0) (ask : Ask Q W) (P : Checked) (code : Code) (source_call
 
       wrote : (s : SourceFrame W) (c : Frame W) → Agree W n s c → length o'.slots ≤ length c.locals → (v : Value) (s1 : SourceFrame W) (c1 : Frame W) → Wrote W (length o.slots) (Some slot) v s s1 c c1 → Agree W n (with_slots s1 (slice_set s1.locals slot v)) c1
       wrote s c g size v s1 c1 q =
-          let high : slot < length c.locals = lt_of_lt_of_le is_local (le_trans le (le_trans (grows o.slots o'.slots i.temps i.slots_are) size)) in
+          let high : slot < length c.locals = lt_of_lt_of_le is_local (le_trans le (le_trans (grown o.slots o'.slots i.temps i.slots_are) size)) in
           let low : slot < length s1.locals = lt_of_lt_of_le (is_there W n s c slot g is_local high) (le_of_eq (sym (ap length q.same))) in
           agree_set W n s1 c c1 slot v low q.shared (q.written slot refl high)
           (λ j h d. ap (λ (ls : List Value). slice_get ls j) q.same ∙ g.locals j h ∙ sym (q.kept j (lt_of_lt_of_le h le) (λ e. d (other j e))))
@@ -72,18 +73,18 @@ module _ (Q W : Type 0) (ask : Ask Q W) (P : Checked) (code : Code) (source_call
   change_put r f slot o x token counter is_local le i =
       let word = w.Op f slot (Slot slot) (Some x.operand) in
       let node = length x.out.nodes + 1 in
-      let up : length o.slots ≤ length x.out.slots = grows o.slots x.out.slots i.temps i.slots_are in
+      let up : length o.slots ≤ length x.out.slots = grown o.slots x.out.slots i.temps i.slots_are in
       record {
         trees = i.trees ++ Do node word ∷ [];
         temps = i.temps;
-        trees_are = joined o.trees x.out.trees (emitted P word token counter x.out).trees i.trees (Do node word ∷ []) i.trees_are refl;
+        trees_are = behind o.trees x.out.trees (emitted P word token counter x.out).trees i.trees (Do node word ∷ []) i.trees_are refl;
         slots_are = i.slots_are;
         method_is = i.method_is;
         meets = λ s c g size.
             let old = unwrap_or (slice_get s.locals slot) Null in
             then_operand Q W ask P code source_calls calls n r o x i le (Do node word ∷ []) (λ b. changes (apply f old b) slot) (Put Q W ask P code source_calls calls n c) s c g size
             (λ v s1 c1 g1 a1 e1. change_meets node f slot x.operand old v s1 c c1 is_local (lt_of_lt_of_le is_local (le_trans le (le_trans up (le_trans size (le_of_eq (sym a1.size)))))) g1 a1.size
-                (operand_kept W (length o.slots) s s1 c c1 (Slot slot) (lt_of_lt_of_le is_local le) a1 ∙ ap (λ (z : Option Value). unwrap_or z Null) (sym (g.locals slot is_local))) e1);
+            (operand_after W (length o.slots) s s1 c c1 (Slot slot) (lt_of_lt_of_le is_local le) a1 ∙ ap (λ (z : Option Value). unwrap_or z Null) (sym (g.locals slot is_local))) e1);
       }
 
   -- by a literal

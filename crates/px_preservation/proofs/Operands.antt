@@ -1,15 +1,15 @@
 -- What statements need of expressions: the value as an operand or in a slot, or the call alone.
-use Rattle.std.proofs.Common.{◌≡◌, ℕ, ◌+◌, ◌<◌, ◌≤◌, Bool, true, false, List, [], ◌∷◌, ◌++◌, append_assoc, append-nil, length, length-append, Option, Some, None, slice_get, unwrap_or, Ok, Err, refl, sym, ap, ◌∙◌, subst, arith}
+use Rattle.std.proofs.Common.{◌≡◌, ℕ, ◌+◌, ◌<◌, ◌≤◌, Bool, true, false, List, [], ◌∷◌, ◌++◌, append-nil, length, Option, Some, None, unwrap_or, refl, sym, ap, subst, arith}
 use Rattle.px_value.specs.declared.value.Value.{Value}
 use Rattle.px_value.specs.declared.value.Value.TheVariants.{Null}
-use Rattle.px_value.specs.Outcome.{Outcome, Gives, Throws, Asks, then_run, ◌>>=◌, on_shared, Flow, Goes, goes_on}
+use Rattle.px_value.specs.Outcome.{Outcome, Gives, then_run, ◌>>=◌, on_shared, Flow, Goes, goes_on}
 use Rattle.px_facts.specs.declared.checked.Checked.{Checked}
 use Rattle.px_effects.specs.Run.{Ask}
 use Rattle.px_semantics.specs.Run.{Frame as SourceFrame, Here as SourceHere}
 use Rattle.px_semantics.specs.Expressions.{Calls as SourceCalls}
 use Rattle.px_normal.specs.declared.ty.Ty.{Ty}
 use Rattle.px_normal.specs.declared.word.Operand.{Operand}
-use Rattle.px_normal.specs.declared.word.Operand.TheVariants.{Slot, Literal}
+use Rattle.px_normal.specs.declared.word.Operand.TheVariants.{Slot}
 use Rattle.px_normal.specs.declared.word.Word.TheVariants as w
 use Rattle.px_normal.specs.declared.method.Tree.{Tree}
 use Rattle.px_normal.specs.declared.method.Tree.TheVariants.{Do}
@@ -17,7 +17,7 @@ use Rattle.px_normal.specs.declared.node.Counter.{Counter}
 use Rattle.px_normal.specs.declared.node.Counter.TheVariants.{Completed}
 use Rattle.px_normal.specs.declared.code.Code.{Code}
 use Rattle.px_normal.specs.Run.{Frame}
-use Rattle.px_normal.specs.Words.{operand, operands}
+use Rattle.px_normal.specs.Words.{operand}
 use Rattle.px_normal.specs.CodeRun.{Calls, body_run}
 use Rattle.px_lowering.specs.declared.draft.Draft.{Draft}
 use Rattle.px_lowering.specs.declared.valued.Step.{Step}
@@ -28,9 +28,9 @@ use Rattle.px_lowering.specs.Emit.{Lasted, Operated, emitted, writes, operated, 
 use Rattle.px_lowering.specs.Statements.{without_result, unused as unused_low}
 use Rattle.px_preservation.proofs.Meets.{Meets, meets_at, meets_bind, meets_more, meets_tail}
 use Rattle.px_preservation.proofs.Runs.{run_append}
-use Rattle.px_preservation.proofs.Afters.{behind, grown, one_more, after_none, after_then, agree_after, wrote_slot, wrote_above, wrote_none}
+use Rattle.px_preservation.proofs.Afters.{behind, grown, one_more, after_none, wrote_slot, wrote_above, wrote_none}
 use Rattle.px_preservation.proofs.Words.{word_meets, step_source, step_ends}
-use Rattle.px_preservation.proofs.Agree.{Agree, After, Wrote, Shares, Finishes, into, unused, IsBelow, IsStepBelow, IsHadBelow, CallsMeet, ComesTo, Ends, HadMeets, IsLowered}
+use Rattle.px_preservation.proofs.Agree.{Agree, After, Wrote, Shares, into, unused, IsBelow, IsStepBelow, IsHadBelow, CallsMeet, ComesTo, Ends, HadMeets, IsLowered}
 
 module _ (Q W : Type 0) (ask : Ask Q W) (P : Checked) (code : Code) (source_calls : SourceCalls Q W) (calls : Calls Q W) (n : ℕ) where
   -- behind a draft, a value is had as an operand
@@ -89,7 +89,7 @@ module _ (Q W : Type 0) (ask : Ask Q W) (P : Checked) (code : Code) (source_call
   -- ---- from what is lowered
 
   -- its last statement, with a slot or without
-  ended : (r : SourceHere Q W Value) (low high : ℕ) (ts : List Tree) (x : Step) → Ends Q W ask P code source_calls calls n low high r ts x → (node k : ℕ) → low ≤ k → (s : SourceFrame W) (c : Frame W) → Agree W n s c → high ≤ length c.locals → k < length c.locals → Meets (r s) (run (ts ++ Do node (writes x k) ∷ []) c) (λ v s' f c'. (f ≡ Goes) × After W low s s' c c' × (operand c'.locals (Slot k) ≡ v)) (Shares W)
+  pub ended : (r : SourceHere Q W Value) (low high : ℕ) (ts : List Tree) (x : Step) → Ends Q W ask P code source_calls calls n low high r ts x → (node k : ℕ) → low ≤ k → (s : SourceFrame W) (c : Frame W) → Agree W n s c → high ≤ length c.locals → k < length c.locals → Meets (r s) (run (ts ++ Do node (writes x k) ∷ []) c) (λ v s' f c'. (f ≡ Goes) × After W low s s' c c' × (operand c'.locals (Slot k) ≡ v)) (Shares W)
   ended r low high ts x m node k l s c ag h b =
       meets_more (r s) (run (ts ++ Do node (writes x k) ∷ []) c) (λ v s' f c'. (f ≡ Goes) × Wrote W low (Some k) v s s' c c') (Shares W) (λ v s' f c'. (f ≡ Goes) × After W low s s' c c' × (operand c'.locals (Slot k) ≡ v)) (Shares W) (m node (Some k) (writes x k) (into x k) s c ag h)
       (λ v s' f c' q. (q.0, wrote_above W low k v s s' c c' l q.1, ap (λ (u : Option Value). unwrap_or u Null) (q.1.written k refl b)))

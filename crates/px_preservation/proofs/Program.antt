@@ -1,7 +1,5 @@
 -- What stands in new objects, which statements there are, and which methods, of a program and of its code.
-use Rattle.std.proofs.Common.{◌≡◌, ℕ, zero, suc, ◌+◌, List, [], ◌∷◌, ◌++◌, length, map, Option, Some, None, slice_get, refl, sym, ap, ◌∙◌, arith}
-use Rattle.px_value.specs.declared.value.Value.{Value}
-use Rattle.px_value.specs.declared.statement.Statement.{Statement}
+use Rattle.std.proofs.Common.{◌≡◌, ℕ, zero, suc, ◌+◌, List, [], ◌∷◌, ◌++◌, length, map, Option, Some, None, slice_get, refl, arith}
 use Rattle.px_tree.specs.declared.Class.{Class}
 use Rattle.px_tree.specs.declared.Member.{Member}
 use Rattle.px_tree.specs.declared.Member.TheVariants as member

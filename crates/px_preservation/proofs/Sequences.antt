@@ -1,16 +1,12 @@
 -- One run after another, on both sides.
-use Rattle.std.proofs.Common.{◌≡◌, ℕ, ◌+◌, ◌<◌, ◌≤◌, List, [], ◌∷◌, ◌++◌, length, Option, Some, None, unwrap_or, slice_get, refl, sym, ap, ◌∙◌, subst, arith, append_assoc, append-nil, length-append, le_of_eq, le-add_right, le_trans, lt_of_lt_of_le}
+use Rattle.std.proofs.Common.{◌≡◌, ℕ, ◌≤◌, List, [], ◌++◌, length, refl, sym, ap, ◌∙◌, append-nil, le_of_eq, le_trans}
 use Rattle.px_value.specs.declared.value.Value.{Value}
-use Rattle.px_value.specs.declared.value.Value.TheVariants.{Null}
-use Rattle.px_value.specs.Outcome.{Outcome, Gives, Throws, Asks, then_run, ◌>>=◌, pure, Flow, Goes, Returns, goes_on}
+use Rattle.px_value.specs.Outcome.{Outcome, then_run, ◌>>=◌, pure, Flow, Goes, Returns, goes_on}
 use Rattle.px_facts.specs.declared.checked.Checked.{Checked}
 use Rattle.px_effects.specs.Run.{Ask}
 use Rattle.px_semantics.specs.Run.{Frame as SourceFrame, Here as SourceHere}
 use Rattle.px_semantics.specs.Expressions.{Calls as SourceCalls}
 use Rattle.px_semantics.specs.Statements.{goes}
-use Rattle.px_normal.specs.declared.ty.Ty.{Ty}
-use Rattle.px_normal.specs.declared.word.Operand.{Operand}
-use Rattle.px_normal.specs.declared.word.Operand.TheVariants.{Slot, Literal}
 use Rattle.px_normal.specs.declared.method.Tree.{Tree}
 use Rattle.px_normal.specs.declared.code.Code.{Code}
 use Rattle.px_normal.specs.Run.{Frame, Here}
@@ -19,34 +15,10 @@ use Rattle.px_normal.specs.CodeRun.{Calls, body_run}
 use Rattle.px_lowering.specs.declared.draft.Draft.{Draft}
 use Rattle.px_lowering.specs.Emit.{Operated}
 use Rattle.px_preservation.proofs.Meets.{Meets, meets_at, meets_bind, meets_more, meets_source}
-use Rattle.px_preservation.proofs.Agree.{Agree, After, Shares, IsBelow, IsDone}
+use Rattle.px_preservation.proofs.Agree.{Agree, After, Shares, IsDone}
 use Rattle.px_preservation.proofs.Operands.{IsOperand, IsUnused}
+use Rattle.px_preservation.proofs.Afters.{agree_after, behind, grown}
 use Rattle.px_preservation.proofs.Runs.{run_append}
-
--- ---- frames
-
--- behind an expression the locals are the same on both sides
-pub agree_after : (W : Type 0) (n low : ℕ) (s s' : SourceFrame W) (c c' : Frame W) → n ≤ low → Agree W n s c → After W low s s' c c' → Agree W n s' c'
-agree_after W n low s s' c c' le g a = record {
-  locals = λ j h. ap (λ (ls : List Value). slice_get ls j) a.same ∙ g.locals j h ∙ sym (a.kept j (lt_of_lt_of_le h le));
-  shared = a.shared;
-}
-
--- what was had stays where it is
-pub operand_kept : (W : Type 0) (low : ℕ) (s s' : SourceFrame W) (c c' : Frame W) (a : Operand) → IsBelow low a → After W low s s' c c' → operand c'.locals a ≡ operand c.locals a
-operand_kept W low s s' c c' (Slot k) h a = ap (λ (v : Option Value). unwrap_or v Null) (a.kept k h)
-operand_kept W low s s' c c' (Literal v) h a = refl
-
-pub below_more : (low high : ℕ) (a : Operand) → low ≤ high → IsBelow low a → IsBelow high a
-below_more low high (Slot k) h a = lt_of_lt_of_le a h
-below_more low high (Literal v) h a = tt
-
--- the slots only grow
-pub grows : (xs ys zs : List Ty) → ys ≡ xs ++ zs → length xs ≤ length ys
-grows xs ys zs h = let e : length ys ≡ length xs + length zs = ap length h ∙ length-append xs zs in omega (arith, e)
-
-pub joined : {A : Type 0} (xs ys zs us vs : List A) → ys ≡ xs ++ us → zs ≡ ys ++ vs → zs ≡ xs ++ (us ++ vs)
-joined xs ys zs us vs h k = k ∙ ap (λ l. l ++ vs) h ∙ append_assoc xs us vs
 
 module _ (Q W : Type 0) (ask : Ask Q W) (P : Checked) (code : Code) (source_calls : SourceCalls Q W) (calls : Calls Q W) (n : ℕ) where
   abbrev pub Done : Frame W → Flow Value → SourceFrame W → Flow Value → Frame W → Type 0
@@ -94,13 +66,13 @@ module _ (Q W : Type 0) (ask : Ask Q W) (P : Checked) (code : Code) (source_call
   seq_done r q o o1 o2 a b = record {
     trees = a.trees ++ b.trees;
     temps = a.temps ++ b.temps;
-    trees_are = joined o.trees o1.trees o2.trees a.trees b.trees a.trees_are b.trees_are;
-    slots_are = joined o.slots o1.slots o2.slots a.temps b.temps a.slots_are b.slots_are;
+    trees_are = behind o.trees o1.trees o2.trees a.trees b.trees a.trees_are b.trees_are;
+    slots_are = behind o.slots o1.slots o2.slots a.temps b.temps a.slots_are b.slots_are;
     method_is = b.method_is ∙ a.method_is;
     meets = λ s c g size.
-        then_trees (r s) a.trees b.trees c (Done c) (goes_on q) (Done c) (a.meets s c g (le_trans (grows o1.slots o2.slots b.temps b.slots_are) size))
+        then_trees (r s) a.trees b.trees c (Done c) (goes_on q) (Done c) (a.meets s c g (le_trans (grown o1.slots o2.slots b.temps b.slots_are) size))
         (λ f s1 f1 c1 z. meets_at (goes_on q f s1) (goes_on (runs b.trees) f1 c1) (goes_on (runs b.trees) f c1) (Done c) (Shares W) (ap (λ x. goes_on (runs b.trees) x c1) z.0)
-            (seq_on q b.trees c c1 f s1 z.1 z.2 (b.meets s1 c1 z.1 (le_trans size (le_of_eq (sym z.2))))));
+        (seq_on q b.trees c c1 f s1 z.1 z.2 (b.meets s1 c1 z.1 (le_trans size (le_of_eq (sym z.2))))));
   }
 
   -- a value that isn't used

@@ -1,12 +1,12 @@
 -- What one statement of the code does beside an act of the source, and what the last statement of an expression does.
-use Rattle.std.proofs.Common.{◌≡◌, ℕ, Bool, true, false, List, [], ◌∷◌, Option, Some, None, Ok, Err, unwrap_or, refl, sym, ap, ◌∙◌, subst}
+use Rattle.std.proofs.Common.{◌≡◌, ℕ, false, List, [], ◌∷◌, Option, Some, None, Ok, Err, unwrap_or, refl, sym, ap, ◌∙◌, subst}
 use Rattle.px_value.specs.declared.value.Value.{Value}
 use Rattle.px_value.specs.declared.value.Value.TheVariants.{Null}
 use Rattle.px_value.specs.declared.answer.Answer.{Answer}
 use Rattle.px_value.specs.Operators.{Applied}
-use Rattle.px_value.specs.Outcome.{Outcome, Gives, Throws, Asks, Run, then_run, ◌>>=◌, pure, beside, on_shared, Flow, Goes, Returns}
+use Rattle.px_value.specs.Outcome.{Outcome, Gives, Throws, Asks, then_run, ◌>>=◌, pure, beside, on_shared, Flow, Goes}
 use Rattle.px_facts.specs.declared.checked.Checked.{Checked}
-use Rattle.px_effects.specs.Run.{Shared, There, Ask, turn, came_to}
+use Rattle.px_effects.specs.Run.{Shared, There, Ask, turn}
 use Rattle.px_effects.specs.Act.{Act, Comes, Landed, acted, landed, left, settled, does}
 use Rattle.px_effects.specs.Act as act
 use Rattle.px_effects.specs.Cells.{first_cells}
@@ -18,7 +18,7 @@ use Rattle.px_normal.specs.declared.word.Word.TheVariants as w
 use Rattle.px_normal.specs.declared.method.Tree.TheVariants.{Do}
 use Rattle.px_normal.specs.declared.code.Code.{Code}
 use Rattle.px_normal.specs.First.{Slots, fresh_of}
-use Rattle.px_normal.specs.Run.{Traced, Frame, with_ran, on_traced, noted}
+use Rattle.px_normal.specs.Run.{Traced, Frame, with_ran, noted}
 use Rattle.px_normal.specs.Words.{Does, Works, Invokes, does_of, answer_of, to_of, with_slot, is_return, result_of}
 use Rattle.px_normal.specs.CodeRun.{Calls, flow_if, ended, after_act, act_run, work_run, call_run, comes_back, does_run, word_run, body_run}
 use Rattle.px_lowering.specs.declared.valued.Step.{Step}

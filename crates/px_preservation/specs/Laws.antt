@@ -1,5 +1,5 @@
 -- What lowering promises of the meaning.
-use Rattle.std.specs.Prelude.{◌≡◌, ℕ, List, [], ◌∷◌, length, Option, Some, None, slice_get}
+use Rattle.std.specs.Prelude.{◌≡◌, ℕ, List, [], ◌∷◌, length}
 use Rattle.px_value.specs.declared.value.Value.{Value}
 use Rattle.px_value.specs.declared.object.Object.{Object}
 use Rattle.px_tree.specs.declared.Class.{Class}

@@ -1,2 +1,4 @@
 //! Lowering preserves the meaning of a program.
 #![tactic(auto)]
+
+pub mod law;

@@ -1,0 +1,4 @@
+pub mod Operators
+pub mod Drafts
+pub mod Around
+pub mod Expressions

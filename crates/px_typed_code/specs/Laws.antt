@@ -1,0 +1,87 @@
+-- What is promised of the code of a typed program.
+use Rattle.std.specs.Prelude.{◌≡◌, ℕ, suc, true, false, List, [], ◌∷◌, length, Option, Some, None, slice_get}
+use Rattle.px_value.specs.declared.header.Kind.{Kind}
+use Rattle.px_value.specs.declared.header.Kind.TheVariants as kind
+use Rattle.px_tree.specs.declared.Class.{Class}
+use Rattle.px_tree.specs.declared.Member.{Member}
+use Rattle.px_tree.specs.declared.Member.TheVariants as member
+use Rattle.px_tree.specs.declared.Method.{Method}
+use Rattle.px_tree.specs.declared.FieldDecl.{FieldDecl}
+use Rattle.px_facts.specs.declared.types.Ty.{Ty}
+use Rattle.px_facts.specs.declared.types.Element.{Element}
+use Rattle.px_facts.specs.declared.types.Element.TheVariants as element
+use Rattle.px_facts.specs.declared.checked.Checked.{Checked}
+use Rattle.px_facts.specs.declared.checked.Facts.{Facts}
+use Rattle.px_facts.specs.declared.checked.ClassFact.{ClassFact}
+use Rattle.px_facts.specs.declared.checked.MethodFact.{MethodFact}
+use Rattle.px_facts.specs.declared.checked.Entry.{Entry}
+use Rattle.px_facts.specs.declared.checked.Named.{Named}
+use Rattle.px_facts.specs.declared.checked.Named.TheVariants as named
+use Rattle.px_facts.specs.declared.operation.Operation.{Operation}
+use Rattle.px_semantics.specs.Facts.{type_at, named_at, by_number, fields_of}
+use Rattle.px_semantics.specs.Program.{methods_of, source_from}
+use Rattle.px_semantics.specs.Typing.{IsTyped as IsTypedSource, is_select}
+use Rattle.px_normal.specs.Typed.{IsTyped}
+use Rattle.px_lowering.specs.declared.allocations.Allocation.{Allocation}
+use Rattle.px_lowering.specs.Allocations.{kind_of}
+use Rattle.px_lowering.specs.Programs.{allocations, is_entry, lowered}
+use Rattle.px_typed_code.specs.Uses.{is_value, is_result, AreUsed}
+
+-- ---- classes
+
+-- the fields among members
+abbrev pub fields_in : List Member → List FieldDecl
+fields_in [] = []
+fields_in (member.Field f ∷ ms) = f ∷ fields_in ms
+fields_in (member.Method m ∷ ms) = fields_in ms
+
+-- each class is known, with as many fields as it declares
+abbrev pub AreKnown : List Class → List ClassFact → Type 0
+AreKnown [] [] = Unit {0}
+AreKnown (c ∷ cs) (fact ∷ facts) = (length (fields_in c.members) ≡ length fact.fields) × AreKnown cs facts
+AreKnown _ _ = ⊥
+
+-- ---- sites
+
+-- the number of the site of what allocates
+abbrev pub site_of : Named → Option ℕ
+site_of (named.NewObject class site) = Some site
+site_of (named.NewArray site) = Some site
+site_of (named.Query number site) = Some site
+site_of n = None
+
+-- what a site makes is known
+abbrev pub IsKnownClass : Facts → ℕ → Type 0
+IsKnownClass F class = (c : ClassFact) × (slice_get F.classes class ≡ Some c)
+
+abbrev pub IsKnownElement : Facts → ℕ → Type 0
+IsKnownElement F (suc (suc (suc (suc class)))) = IsKnownClass F class
+IsKnownElement F number = Unit {0}
+
+abbrev pub IsKnownKind : Facts → Kind → Type 0
+IsKnownKind F (kind.Object class) = IsKnownClass F class
+IsKnownKind F (kind.Array number) = IsKnownElement F number
+IsKnownKind F (kind.Rows number) = (o : Operation) × (by_number F.operations number ≡ Some o)
+
+-- What typed code asks of the facts of a program beside the typing rules.
+pub record AreUsedWell (P : Checked) : Type 0 where
+  -- all fields are known
+  pub classes : AreKnown P.program.classes P.facts.classes
+  -- a field has a type of values
+  pub fields : (class place : ℕ) (t : Ty) → slice_get (fields_of P.facts class) place ≡ Some t → is_value t ≡ true
+  -- so has each slot, and a result unless it is void; a method's class is known
+  pub slots : (number place : ℕ) (fact : MethodFact) (t : Ty) → by_number P.facts.methods number ≡ Some fact → slice_get fact.slots place ≡ Some t → is_value t ≡ true
+  pub results : (number : ℕ) (fact : MethodFact) → by_number P.facts.methods number ≡ Some fact → is_result fact.result ≡ true
+  -- the parts of each body are used as the type rules say
+  pub bodies : (number : ℕ) (m : Method) → by_number (methods_of P.program.classes) number ≡ Some m → AreUsed P.facts m.body
+  -- the numbers of sites are those of the allocations in the text
+  pub sites : (id site : ℕ) (k : Kind) → site_of (named_at P.facts id) ≡ Some site → kind_of (named_at P.facts id) (type_at P.facts id) ≡ Some k → (a : Allocation) × (by_number (allocations P.facts 1 (methods_of P.program.classes)) site ≡ Some a) × (a.kind ≡ k)
+  pub kinds : (place : ℕ) (a : Allocation) → slice_get (allocations P.facts 1 (methods_of P.program.classes)) place ≡ Some a → IsKnownKind P.facts a.kind
+  -- a query asks for rows
+  pub queries : (id number site : ℕ) (o : Operation) → named_at P.facts id ≡ named.Query number site → by_number P.facts.operations number ≡ Some o → is_select o.statement ≡ true
+  -- each public method of the main class is an entry
+  pub entries : (number : ℕ) (m : Method) (fact : MethodFact) → by_number (methods_of P.program.classes) number ≡ Some m → by_number P.facts.methods number ≡ Some fact → is_entry m.access fact.class P.facts.main.class ≡ true → (place : ℕ) × (entry : Entry) × (slice_get P.facts.main.entries place ≡ Some entry) × (entry.method ≡ number)
+
+-- Lowering makes typed code.
+abbrev pub LoweredIsTyped : Type 0
+LoweredIsTyped = (P : Checked) → IsTypedSource (source_from P) → AreUsedWell P → IsTyped (lowered P)
