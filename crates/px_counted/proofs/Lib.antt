@@ -5,3 +5,4 @@ pub mod Pieces
 pub mod Shares
 pub mod Operands
 pub mod Values
+pub mod Fits

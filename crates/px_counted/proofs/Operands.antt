@@ -29,7 +29,7 @@ use Rattle.px_counts.proofs.Unmarked.{unmarked_frame, unmarked_here, SameHere}
 use Rattle.px_preservation.proofs.Meets.{Meets}
 use Rattle.px_preservation.proofs.Agree.{Agree, After, Shares, Finishes, into, unused, IsLowered}
 use Rattle.px_preservation.proofs.Runs.{run_append}
-use Rattle.px_preservation.proofs.Sequences.{agree_after}
+use Rattle.px_preservation.proofs.Afters.{agree_after}
 use Rattle.px_preservation.proofs.Operands.{IsOperand, operand_is}
 use Rattle.px_counted.proofs.Counts.{AreBehind, Counted, hits, marks, with_mark, mark_behind, counted_bind}
 use Rattle.px_counted.proofs.Pieces.{same_rest, from_node, IsKnown, known_front, Grows, grows_one, hit_counter, from_one}

@@ -30,7 +30,7 @@ use Rattle.px_counts.proofs.Unmarked.{unmarked_frame, unmarked_here, SameHere}
 use Rattle.px_preservation.proofs.Meets.{Meets}
 use Rattle.px_preservation.proofs.Agree.{Agree, After, Shares, Finishes, into, unused, IsLowered}
 use Rattle.px_preservation.proofs.Runs.{run_append}
-use Rattle.px_preservation.proofs.Sequences.{agree_after}
+use Rattle.px_preservation.proofs.Afters.{agree_after}
 use Rattle.px_preservation.proofs.Operands.{IsOperand, operand_is}
 use Rattle.px_counted.proofs.Counts.{one_if, AreBehind, Counted, hits, counted_bind}
 
@@ -42,6 +42,9 @@ append_cancel (x ∷ xs) ys zs h = append_cancel xs ys zs (let t : xs ++ ys ≡ 
 
 pub same_rest : {A : Type 0} (all xs ys zs : List A) → all ≡ xs ++ ys → all ≡ xs ++ zs → ys ≡ zs
 same_rest all xs ys zs h k = append_cancel xs ys zs (sym h ∙ k)
+
+pub joined : {A : Type 0} (xs ys zs us vs : List A) → ys ≡ xs ++ us → zs ≡ ys ++ vs → zs ≡ xs ++ (us ++ vs)
+joined xs ys zs us vs h k = k ∙ ap (λ l. l ++ vs) h ∙ append_assoc xs us vs
 
 get_front : {A : Type 0} (xs ys : List A) (i : ℕ) (x : A) → slice_get xs i ≡ Some x → slice_get (xs ++ ys) i ≡ Some x
 get_front [] ys i x h = absurd (cc h)

@@ -110,6 +110,15 @@ module _ (Q W : Type 0) (ask : Ask Q W) (code : Code) (calls : Calls Q W) (k : �
         → Counted Q W k counter 0 (r s) (body_run code ask calls (Do node word ∷ []) c)
     word_counted A node word r s c keeps work h = once_counted A node (r s) _ s.shared.world.marks c.shared.ran (keeps.at s) (word_notes node word c work) h
 
+    gives_counted : (A : Type 0) (node e : ℕ) (v : A) (s : SourceFrame (Marked W)) (p : Outcome Q (Frame W) (Flow Value)) (rs : List Ran) → NotesOnce node p rs → runs_of k rs + (hits Q W k counter node + e) ≡ times (mark_of counter) s.shared.world.marks → Counted Q W k counter e (Gives v s) p
+    gives_counted A node e v s (Gives f c) rs j h = omega (arith, j, h)
+    gives_counted A node e v s (Throws t c) rs j h = tt
+    gives_counted A node e v s (Asks q c) rs j h = tt
+
+    -- beside what only comes to a value
+    pub word_gives : (A : Type 0) (node e : ℕ) (word : Word) (v : A) (s : SourceFrame (Marked W)) (c : Frame W) → IsWork (does_of code word c.locals) → AreBehind Q W k counter (hits Q W k counter node + e) s c → Counted Q W k counter e (Gives v s) (body_run code ask calls (Do node word ∷ []) c)
+    word_gives A node e word v s c work h = gives_counted A node e v s _ c.shared.ran (word_notes node word c work) h
+
     -- the last statement of an expression, unless it is a call
     abbrev pub IsNoCall : Step → Type 0
     IsNoCall (step.Call of method args) = ⊥

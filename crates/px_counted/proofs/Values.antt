@@ -28,38 +28,37 @@ use Rattle.px_counts.specs.Marks as mark
 use Rattle.px_counts.specs.Marks.{Marked}
 use Rattle.px_counts.proofs.Unmarked.{unmarked_frame, SameHere}
 use Rattle.px_preservation.proofs.Agree.{Agree, Finishes, into, unused, IsLowered}
-use Rattle.px_preservation.proofs.Sequences.{joined}
 use Rattle.px_counted.specs.Laws.{NeverThrows}
 use Rattle.px_counted.proofs.Counts.{one_if, AreBehind, Counted, marks}
 use Rattle.px_counted.proofs.Keeps.{KeepsHere}
 use Rattle.px_counted.proofs.Steps.{IsNoCall, step_works, word_counted}
-use Rattle.px_counted.proofs.Pieces.{same_rest, from_node, IsKnown, known_front, Grows, grows_none, grows_then, grows_more, grows_up}
+use Rattle.px_counted.proofs.Pieces.{same_rest, joined, from_node, IsKnown, known_front, Grows, grows_none, grows_then, grows_more, grows_up}
 use Rattle.px_counted.proofs.Shares.{last_of, alone_of, split_of}
 use Rattle.px_counted.proofs.Operands.{HereM, from, hit, Runs, IsLate, own, inside, IsPending, CountsHad, CountsLowered, CountsOperand, then_counts, marked_run, marked_runs}
 
 module _ (Q W : Type 0) (ask : Ask Q W) (never : NeverThrows Q W ask) (P : Checked) (code : Code) (source_calls : SourceCalls Q W) (calls : Calls Q W) (n k : ℕ) (counter : Counter) where
-  abbrev M : Type 0 → Type 0
+  abbrev pub M : Type 0 → Type 0
   M = HereM Q W ask P code source_calls calls n k counter
 
-  abbrev F : Draft → ℕ
+  abbrev pub F : Draft → ℕ
   F o = from_node Q W k counter (length o.nodes)
 
-  abbrev H : ℕ → ℕ
+  abbrev pub H : ℕ → ℕ
   H = hit Q W ask P code source_calls calls n k counter
 
-  abbrev R : {A : Type 0} → (high before after : ℕ) → M A → List Tree → Type 0
+  abbrev pub R : {A : Type 0} → (high before after : ℕ) → M A → List Tree → Type 0
   R = Runs Q W ask P code source_calls calls n k counter
 
-  abbrev Operand' : (given id inner : ℕ) → M Value → SourceHere Q W Value → Draft → Operated → Type 0
+  abbrev pub Operand' : (given id inner : ℕ) → M Value → SourceHere Q W Value → Draft → Operated → Type 0
   Operand' = CountsOperand Q W ask P code source_calls calls n k counter
 
-  abbrev Lowered : (given id : ℕ) → M Value → SourceHere Q W Value → Draft → Lasted → Type 0
+  abbrev pub Lowered : (given id : ℕ) → M Value → SourceHere Q W Value → Draft → Lasted → Type 0
   Lowered = CountsLowered Q W ask P code source_calls calls n k counter
 
-  abbrev Plain : SourceHere Q W Value → Draft → Lasted → Type 0
+  abbrev pub Plain : SourceHere Q W Value → Draft → Lasted → Type 0
   Plain = IsLowered Q W ask P code source_calls calls n
 
-  abbrev marked : ℕ → M Value → M Value
+  abbrev pub marked : ℕ → M Value → M Value
   marked = marked_run Q W ask P code source_calls calls n k counter
 
   -- the marks of an expression itself
@@ -85,13 +84,13 @@ module _ (Q W : Type 0) (ask : Ask Q W) (never : NeverThrows Q W ask) (P : Check
   late_once id (own e) = completes_once id e
   late_once id (inside e) = completes_once id e
 
-  from_zero : {A : Type 0} (high b after : ℕ) (r : M A) (ts : List Tree) → b ≡ 0 → R high 0 after r ts → R high b after r ts
+  pub from_zero : {A : Type 0} (high b after : ℕ) (r : M A) (ts : List Tree) → b ≡ 0 → R high 0 after r ts → R high b after r ts
   from_zero high b after r ts e h = subst (λ (m : ℕ). R high m after r ts) (sym e) h
 
-  with_trees : {A : Type 0} (high before after : ℕ) (r : M A) (ts us : List Tree) → ts ≡ us → R high before after r ts → R high before after r us
+  pub with_trees : {A : Type 0} (high before after : ℕ) (r : M A) (ts us : List Tree) → ts ≡ us → R high before after r ts → R high before after r us
   with_trees high before after r ts us e h = subst (λ (l : List Tree). R high before after r l) e h
 
-  abbrev result : Draft → (id token : ℕ) → Had → Lasted
+  abbrev pub result : Draft → (id token : ℕ) → Had → Lasted
   result o id token had = record { out = o; value = record { id = id; token = token; had = had } }
 
   -- a last statement behind one operand
@@ -168,7 +167,7 @@ module _ (Q W : Type 0) (ask : Ask Q W) (never : NeverThrows Q W ask) (P : Check
   abbrev pub IsQuiet : M Value → Type 0
   IsQuiet r = (s : SourceFrame (Marked W)) → (v : Value) × (r s ≡ Gives v s)
 
-  quiet_runs : (high m : ℕ) (r : M Value) → IsQuiet r → R high m m r []
+  pub quiet_runs : (high m : ℕ) (r : M Value) → IsQuiet r → R high m m r []
   quiet_runs high m r q = λ s c agree size j. subst (λ (x : Outcome Q (SourceFrame (Marked W)) Value). Counted Q W k counter m x (body_run code ask calls [] c)) (sym ((q s).1)) j
 
   pub counts_held : (r : M Value) (r' : SourceHere Q W Value) (o : Draft) → IsQuiet r → (a : Operand) (id token : ℕ) → SameHere Q W Value (marked id r) r' → Plain r' o (result o id token (Held a)) → own_of id ≤ 1 → Lowered (own_of id) id (marked id r) r' o (result o id token (Held a))
