@@ -6,3 +6,4 @@ pub mod Shares
 pub mod Operands
 pub mod Values
 pub mod Fits
+pub mod Slots
