@@ -7,3 +7,4 @@ pub mod Operands
 pub mod Values
 pub mod Fits
 pub mod Slots
+pub mod Rows
