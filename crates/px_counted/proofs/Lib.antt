@@ -8,3 +8,4 @@ pub mod Values
 pub mod Fits
 pub mod Slots
 pub mod Rows
+pub mod Choices
