@@ -9,3 +9,5 @@ pub mod Fits
 pub mod Slots
 pub mod Rows
 pub mod Choices
+pub mod MarkedForms
+pub mod Given
