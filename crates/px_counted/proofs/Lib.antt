@@ -11,3 +11,4 @@ pub mod Rows
 pub mod Choices
 pub mod MarkedForms
 pub mod Given
+pub mod Expressions
