@@ -12,3 +12,4 @@ pub mod Choices
 pub mod MarkedForms
 pub mod Given
 pub mod Expressions
+pub mod Invoked
