@@ -73,7 +73,7 @@ pub record AreUsedWell (P : Checked) : Type 0 where
   pub slots : (number place : ℕ) (fact : MethodFact) (t : Ty) → by_number P.facts.methods number ≡ Some fact → slice_get fact.slots place ≡ Some t → is_value t ≡ true
   pub results : (number : ℕ) (fact : MethodFact) → by_number P.facts.methods number ≡ Some fact → is_result fact.result ≡ true
   -- the parts of each body are used as the type rules say
-  pub bodies : (number : ℕ) (m : Method) → by_number (methods_of P.program.classes) number ≡ Some m → AreUsed P.facts m.body
+  pub bodies : (number : ℕ) (m : Method) (fact : MethodFact) → by_number (methods_of P.program.classes) number ≡ Some m → by_number P.facts.methods number ≡ Some fact → AreUsed P.facts fact.result m.body
   -- the numbers of sites are those of the allocations in the text
   pub sites : (id site : ℕ) (k : Kind) → site_of (named_at P.facts id) ≡ Some site → kind_of (named_at P.facts id) (type_at P.facts id) ≡ Some k → (a : Allocation) × (by_number (allocations P.facts 1 (methods_of P.program.classes)) site ≡ Some a) × (a.kind ≡ k)
   pub kinds : (place : ℕ) (a : Allocation) → slice_get (allocations P.facts 1 (methods_of P.program.classes)) place ≡ Some a → IsKnownKind P.facts a.kind

@@ -92,15 +92,15 @@ pub data IsInner : Stmt → Stmt → Type 0 where
   last : (x y begin : Stmt) (test : Expr) (body : Stmt) → x.form ≡ st.For begin test y body → IsInner y x
   for_body : (x y begin : Stmt) (test : Expr) (last : Stmt) → x.form ≡ st.For begin test last y → IsInner y x
 
--- tests are booleans, what is joined to a text or printed is printed so, and no void call is returned
-pub record IsAskedOf (F : Facts) (x : Stmt) : Type 0 where
+-- In a method with this result: tests are booleans, what is joined to a text or printed is printed so, and a void method returns no value.
+pub record IsAskedOf (F : Facts) (gives : Ty) (x : Stmt) : Type 0 where
   pub if_test : (test : Expr) (a : Stmt) (b : Option Stmt) → x.form ≡ st.If test a b → type_at F test.id ≡ ty.Boolean
   pub while_test : (test : Expr) (body : Stmt) → x.form ≡ st.While test body → type_at F test.id ≡ ty.Boolean
   pub for_test : (test : Expr) (begin last body : Stmt) → x.form ≡ st.For begin test last body → type_at F test.id ≡ ty.Boolean
   pub joined : (n : Name) (s : Sign) (value : Expr) → x.form ≡ st.Compound n s value → op_of s (type_at F x.id) (type_at F value.id) ≡ op.Concat → joins (type_at F x.id) (type_at F value.id) ≡ true
-  pub result : (value : Expr) → x.form ≡ st.Return (Some value) → is_void (type_at F value.id) ≡ false
+  pub result : (value : Expr) → x.form ≡ st.Return (Some value) → is_void gives ≡ false
   pub printed : (value : Expr) → x.form ≡ st.Print value → is_printable (type_at F value.id) ≡ true
 
 -- it and all statements and expressions in it
-pub data AreUsed (F : Facts) : Stmt → Type 0 where
-  used : (x : Stmt) → IsAskedOf F x → ((y : Expr) → IsIn y x → IsUsed F y) → ((y : Stmt) → IsInner y x → AreUsed F y) → AreUsed F x
+pub data AreUsed (F : Facts) (gives : Ty) : Stmt → Type 0 where
+  used : (x : Stmt) → IsAskedOf F gives x → ((y : Expr) → IsIn y x → IsUsed F y) → ((y : Stmt) → IsInner y x → AreUsed F gives y) → AreUsed F gives x
