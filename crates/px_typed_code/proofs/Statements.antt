@@ -7,7 +7,12 @@ use Rattle.px_tree.specs.declared.Expr.{Expr}
 use Rattle.px_tree.specs.declared.ExprForm.{ExprForm, ExprForm-F, out-ExprForm, out-roll-ExprForm, roll-ExprForm}
 use Rattle.px_tree.specs.declared.ExprForm.TheVariants.{Number, rolls-Number, Str, rolls-Str, True, rolls-True, False, rolls-False, Null as NullForm, rolls-Null, This, rolls-This, Name, rolls-Name, Group, rolls-Group, Field, rolls-Field, Index, rolls-Index, Call, rolls-Call, NewObject, rolls-NewObject, NewArray, rolls-NewArray, Prefix, rolls-Prefix, Binary, rolls-Binary}
 use Rattle.px_tree.specs.declared.ExprForm.TheOpen.{ExprForm-F as f}
-use Rattle.px_tree.specs.declared.Stmt.{Stmt}
+use Rattle.px_tree.specs.declared.TypeName.{TypeName}
+use Rattle.px_tree.specs.declared.Sign.{Sign}
+use Rattle.px_tree.specs.declared.Stmt.{Stmt, fold_out-Stmt}
+use Rattle.px_tree.specs.declared.StmtForm.{StmtForm, StmtForm-F, fold-StmtForm, fold-roll-StmtForm, roll-StmtForm, map-StmtForm}
+use Rattle.px_tree.specs.declared.StmtForm.TheVariants as st
+use Rattle.px_tree.specs.declared.StmtForm.TheOpen.{StmtForm-F as g}
 use Rattle.px_facts.specs.declared.types.Ty.{Ty as Static}
 use Rattle.px_facts.specs.declared.types.Ty.TheVariants as static
 use Rattle.px_facts.specs.declared.types.Element.{Element}
@@ -40,8 +45,8 @@ use Rattle.px_lowering.specs.declared.valued.Had.TheVariants.{Held, Chosen, Made
 use Rattle.px_lowering.specs.Types.{code_type, code_result}
 use Rattle.px_lowering.specs.Emit.{Lasted, Operated, node_at, noded, with_trees, emitted, operand_of, slot_of}
 use Rattle.px_lowering.specs.Expressions.{Part, operand_at, fit_to, fitted_operand, low, part_of, put_by, put_name, put_member, put_element, put_form, put_low}
-use Rattle.px_lowering.specs.Statements.{Steps, lower_all, lower_if, store, local_low, change, compound_low, by_one_low, without_result, unused, call_low, branched, if_low, tested, looped, loop_low, for_low, return_low, print_low, low_stmt}
-use Rattle.px_lowering.proofs.StmtForms.{low_block, low_empty, low_local, low_assign, low_compound, low_up, low_down, low_call, low_if, low_while, low_for, low_return, low_print}
+use Rattle.px_lowering.specs.Statements.{whole, last_completes, completes_step, completes, Steps, lower_all, lower_if, store, local_low, change, compound_low, by_one_low, without_result, unused, call_low, branched, if_low, tested, looped, loop_low, for_low, return_low, print_low, low_stmt}
+use Rattle.px_lowering.proofs.StmtForms.{completes_block, completes_return, completes_if, low_block, low_empty, low_local, low_assign, low_compound, low_up, low_down, low_call, low_if, low_while, low_for, low_return, low_print}
 use Rattle.px_typed_code.specs.Uses as uses
 use Rattle.px_typed_code.specs.Uses.{is_value, is_result, joins, IsUsed, IsIn, IsInner, IsAskedOf, AreUsed}
 use Rattle.px_typed_code.proofs.Operators.{IsPlain, GivesCode, gives_code, never, never_so}
@@ -65,10 +70,42 @@ one_typed : (t : Static) → Promotes t t t → IsLiteral (one t) (code_type t)
 one_typed _ typing.Promotes.ints = refl
 one_typed _ typing.Promotes.longs = refl
 
+-- ---- what can complete
+
 -- neither can complete
 neither : (c d : Bool) → (c || d) ≡ false → (c ≡ false) × (d ≡ false)
 neither true d h = never h
 neither false d h = (refl, h)
+
+completes_at : (s : Stmt) (x : StmtForm-F StmtForm Stmt) → s.form ≡ roll-StmtForm x → completes s ≡ completes_step (map-StmtForm StmtForm Stmt Bool Bool (fold-StmtForm Bool Bool completes_step whole) completes x)
+unfolding completes
+completes_at s x h =
+    fold_out-Stmt Bool Bool completes_step whole s ∙ ap (fold-StmtForm Bool Bool completes_step whole) h
+    ∙ fold-roll-StmtForm Bool Bool completes_step whole x
+
+-- what can't complete by the typing rules, can't
+mutual
+  pub stops_too : (F : Facts) (slots : List Static) (result : Static) (c : Bool) (x : Stmt) → IsTypedStmt F slots result c x → c ≡ false → completes x ≡ false
+  stops_too F slots result _ _ (typing.IsTypedStmt.block x items c h t) e = completes_block x items h ∙ items_stop F slots result c items t true e
+  stops_too F slots result _ _ (typing.IsTypedStmt.if_else x test a b c d h k i j) e = let n = neither c d e in completes_if x test a a (Some b) h refl ∙ (λ z. stops_too F slots result c a i n.0 z || stops_too F slots result d b j n.1 z)
+  stops_too F slots result _ _ (typing.IsTypedStmt.leave x h k) e = completes_return x None h
+  stops_too F slots result _ _ (typing.IsTypedStmt.give x y h k t) e = completes_return x (Some y) h
+  stops_too F slots result _ _ (typing.IsTypedStmt.empty x h) e = never e
+  stops_too F slots result _ _ (typing.IsTypedStmt.local x t n y h w k i) e = never e
+  stops_too F slots result _ _ (typing.IsTypedStmt.assign x p y h k i j) e = never e
+  stops_too F slots result _ _ (typing.IsTypedStmt.compound x n o y h w k i) e = never e
+  stops_too F slots result _ _ (typing.IsTypedStmt.up x n h w p) e = never e
+  stops_too F slots result _ _ (typing.IsTypedStmt.down x n h w p) e = never e
+  stops_too F slots result _ _ (typing.IsTypedStmt.call x y h k) e = never e
+  stops_too F slots result _ _ (typing.IsTypedStmt.if_only x test a c h k i) e = never e
+  stops_too F slots result _ _ (typing.IsTypedStmt.while x test body c h k i) e = never e
+  stops_too F slots result _ _ (typing.IsTypedStmt.for_loop x begin test last body b c d h i j k l) e = never e
+  stops_too F slots result _ _ (typing.IsTypedStmt.print x y h k) e = never e
+
+  items_stop : (F : Facts) (slots : List Static) (result : Static) (c : Bool) (xs : List Stmt) → AreTypedStmts F slots result c xs → (before : Bool) → c ≡ false → last_completes before (map completes xs) ≡ false
+  items_stop F slots result _ _ typing.AreTypedStmts.none before e = never e
+  items_stop F slots result _ _ (typing.AreTypedStmts.last x c t) before e = stops_too F slots result c x t e
+  items_stop F slots result _ _ (typing.AreTypedStmts.more x xs c d t ts) before e = items_stop F slots result d xs ts (completes x) e
 
 module _ (P : Checked) (C : Code) (code : IsCodeOf P.facts C) (locals : List Static) (values : (place : ℕ) (t : Static) → slice_get locals place ≡ Some t → is_value t ≡ true) (result : Static) where
   abbrev F : Facts
@@ -94,8 +131,13 @@ module _ (P : Checked) (C : Code) (code : IsCodeOf P.facts C) (locals : List Sta
     pub goes : (o : Draft) → Stands o → GoesTo o (l o)
     pub ends : (o : Draft) → c ≡ false → Stops (l o).trees
 
-  fine_by : (c : Bool) (l m : Steps) → l ≡ m → IsFine c m → IsFine c l
-  fine_by c l m e h = subst (λ k. IsFine c k) (sym e) h
+  fine_by : (b c : Bool) (l m : Steps) → b ≡ c → l ≡ m → IsFine c m → IsFine b l
+  fine_by b c l m q e h = subst (λ k. IsFine k l) (sym q) (subst (λ k. IsFine c k) (sym e) h)
+
+  -- a list of statements, behind what can or can't complete
+  record AreFine (xs : List Stmt) : Type 0 where
+    goes : (o : Draft) → Stands o → GoesTo o (lower_all (map (low_stmt P result) xs) o)
+    ends : (before : Bool) (o : Draft) → last_completes before (map completes xs) ≡ false → (before ≡ false → Stops o.trees) → Stops (lower_all (map (low_stmt P result) xs) o).trees
 
   -- one that can complete
   goes_on : (l : Steps) → ((o : Draft) → Stands o → GoesTo o (l o)) → IsFine true l
@@ -316,9 +358,6 @@ module _ (P : Checked) (C : Code) (code : IsCodeOf P.facts C) (locals : List Sta
 
   -- ---- all statements
 
-  says : Stmt → Steps
-  says x = low_stmt P result x
-
   asks : (x : Stmt) → AreUsed F result x → IsAskedOf F result x
   asks _ (uses.AreUsed.used x a k l) = a
 
@@ -329,25 +368,25 @@ module _ (P : Checked) (C : Code) (code : IsCodeOf P.facts C) (locals : List Sta
   inner _ y (uses.AreUsed.used x a k l) p = l y p
 
   mutual
-    pub statement_fine : (c : Bool) (x : Stmt) → IsTypedStmt F locals result c x → AreUsed F result x → IsFine c (low_stmt P result x)
-    statement_fine _ _ (typing.IsTypedStmt.block x items c h t) u = fine_by c _ _ (low_block P result x items h) (items_fine c items t (λ place y e. inner x y u (uses.IsInner.item x y items place h e)))
-    statement_fine _ _ (typing.IsTypedStmt.empty x h) u = fine_by true _ _ (low_empty P result x h) (goes_on (λ o. o) (λ o s. goes_none P C gives o))
-    statement_fine _ _ (typing.IsTypedStmt.local x t n y h w k e) u = fine_by true _ _ (low_local P result x t n y h) (goes_on _ (λ o s. stored (named_at F x.id) (type_at F x.id) y w.0 x.token w.1 w.2 k e (holds x y u (uses.IsIn.first x y t n h)) o s))
-    statement_fine _ _ (typing.IsTypedStmt.assign x place y h k e d) u = fine_by true _ _ (low_assign P result x place y h) (goes_on _ (λ o s. assigned place y x.token e (holds x place u (uses.IsIn.place x place y h)) k d (holds x y u (uses.IsIn.value x place y h)) o s))
-    statement_fine _ _ (typing.IsTypedStmt.compound x n g y h w k e) u = fine_by true _ _ (low_compound P result x n g y h) (goes_on _ (λ o s.
-        compounded (named_at F x.id) (op_of g (type_at F x.id) (type_at F y.id)) (type_at F x.id) y w.0 x.token w.1 w.2 (gives_code _ (type_at F x.id) (type_at F y.id) (type_at F x.id) k ((asks x u).joined n g y h)) e (holds x y u (uses.IsIn.operand x y n g h)) o s))
-    statement_fine _ _ (typing.IsTypedStmt.up x n h w p) u = fine_by true _ _ (low_up P result x n h) (goes_on _ (λ o s.
+    pub statement_fine : (c : Bool) (x : Stmt) → IsTypedStmt F locals result c x → AreUsed F result x → IsFine (completes x) (low_stmt P result x)
+    statement_fine _ _ (typing.IsTypedStmt.block x items c h t) u = let f = items_fine c items t (λ place y e. inner x y u (uses.IsInner.item x y items place h e)) in fine_by _ (last_completes true (map completes items)) _ _ (completes_block x items h) (low_block P result x items h) (record { goes = f.goes; ends = λ o e. f.ends true o e (λ n. never n) })
+    statement_fine _ _ (typing.IsTypedStmt.empty x h) u = fine_by _ true _ _ (completes_at x g.Empty (h ∙ sym st.rolls-Empty)) (low_empty P result x h) (goes_on (λ o. o) (λ o s. goes_none P C gives o))
+    statement_fine _ _ (typing.IsTypedStmt.local x t n y h w k e) u = fine_by _ true _ _ (completes_at x (g.Local t n y) (h ∙ sym (st.rolls-Local t n y))) (low_local P result x t n y h) (goes_on _ (λ o s. stored (named_at F x.id) (type_at F x.id) y w.0 x.token w.1 w.2 k e (holds x y u (uses.IsIn.first x y t n h)) o s))
+    statement_fine _ _ (typing.IsTypedStmt.assign x place y h k e d) u = fine_by _ true _ _ (completes_at x (g.Assign place y) (h ∙ sym (st.rolls-Assign place y))) (low_assign P result x place y h) (goes_on _ (λ o s. assigned place y x.token e (holds x place u (uses.IsIn.place x place y h)) k d (holds x y u (uses.IsIn.value x place y h)) o s))
+    statement_fine _ _ (typing.IsTypedStmt.compound x n sign y h w k e) u = fine_by _ true _ _ (completes_at x (g.Compound n sign y) (h ∙ sym (st.rolls-Compound n sign y))) (low_compound P result x n sign y h) (goes_on _ (λ o s.
+        compounded (named_at F x.id) (op_of sign (type_at F x.id) (type_at F y.id)) (type_at F x.id) y w.0 x.token w.1 w.2 (gives_code _ (type_at F x.id) (type_at F y.id) (type_at F x.id) k ((asks x u).joined n sign y h)) e (holds x y u (uses.IsIn.operand x y n sign h)) o s))
+    statement_fine _ _ (typing.IsTypedStmt.up x n h w p) u = fine_by _ true _ _ (completes_at x (g.Up n) (h ∙ sym (st.rolls-Up n))) (low_up P result x n h) (goes_on _ (λ o s.
         by_one op.Add (named_at F x.id) x.id w.0 x.token w.1 w.2 p (gives_code op.Add _ _ _ (typing.GivesType.arithmetic op.Add (type_at F x.id) (type_at F x.id) (type_at F x.id) typing.IsArithmetic.add p) (λ e. absurd (cc e))).gives o s))
-    statement_fine _ _ (typing.IsTypedStmt.down x n h w p) u = fine_by true _ _ (low_down P result x n h) (goes_on _ (λ o s.
+    statement_fine _ _ (typing.IsTypedStmt.down x n h w p) u = fine_by _ true _ _ (completes_at x (g.Down n) (h ∙ sym (st.rolls-Down n))) (low_down P result x n h) (goes_on _ (λ o s.
         by_one op.Sub (named_at F x.id) x.id w.0 x.token w.1 w.2 p (gives_code op.Sub _ _ _ (typing.GivesType.arithmetic op.Sub (type_at F x.id) (type_at F x.id) (type_at F x.id) typing.IsArithmetic.sub p) (λ e. absurd (cc e))).gives o s))
-    statement_fine _ _ (typing.IsTypedStmt.call x y h e) u = fine_by true _ _ (low_call P result x y h) (goes_on _ (λ o s. unused_goes (is_void (type_at F y.id)) (type_at F y.id) o ((low P y).part.lower o) refl (means y e (holds x y u (uses.IsIn.call x y h)) o s)))
-    statement_fine _ _ (typing.IsTypedStmt.if_else x test a b c d h e i j) u = fine_by (c || d) _ _ (low_if P result x test a a (Some b) h refl)
-        (if_fine c d test (low_stmt P result a) (Some (low_stmt P result b)) x.token ((asks x u).if_test test a (Some b) h) e (holds x test u (uses.IsIn.if_test x test a (Some b) h)) (statement_fine c a i (inner x a u (uses.IsInner.branch x a test (Some b) h))) (statement_fine d b j (inner x b u (uses.IsInner.other x b a test h))))
-    statement_fine _ _ (typing.IsTypedStmt.if_only x test a c h e i) u = fine_by true _ _ (low_if P result x test a a None h refl)
-        (goes_on _ (if_fine c true test (low_stmt P result a) None x.token ((asks x u).if_test test a None h) e (holds x test u (uses.IsIn.if_test x test a None h)) (statement_fine c a i (inner x a u (uses.IsInner.branch x a test None h))) (goes_on (λ o. o) (λ o s. goes_none P C gives o))).goes)
-    statement_fine _ _ (typing.IsTypedStmt.while x test body c h e i) u = fine_by true _ _ (low_while P result x test body body h refl)
+    statement_fine _ _ (typing.IsTypedStmt.call x y h e) u = fine_by _ true _ _ (completes_at x (g.Call y) (h ∙ sym (st.rolls-Call y))) (low_call P result x y h) (goes_on _ (λ o s. unused_goes (is_void (type_at F y.id)) (type_at F y.id) o ((low P y).part.lower o) refl (means y e (holds x y u (uses.IsIn.call x y h)) o s)))
+    statement_fine _ _ (typing.IsTypedStmt.if_else x test a b c d h e i j) u = fine_by _ (completes a || completes b) _ _ (completes_if x test a a (Some b) h refl) (low_if P result x test a a (Some b) h refl)
+        (if_fine (completes a) (completes b) test (low_stmt P result a) (Some (low_stmt P result b)) x.token ((asks x u).if_test test a (Some b) h) e (holds x test u (uses.IsIn.if_test x test a (Some b) h)) (statement_fine c a i (inner x a u (uses.IsInner.branch x a test (Some b) h))) (statement_fine d b j (inner x b u (uses.IsInner.other x b a test h))))
+    statement_fine _ _ (typing.IsTypedStmt.if_only x test a c h e i) u = fine_by _ true _ _ (completes_if x test a a None h refl) (low_if P result x test a a None h refl)
+        (goes_on _ (if_fine (completes a) true test (low_stmt P result a) None x.token ((asks x u).if_test test a None h) e (holds x test u (uses.IsIn.if_test x test a None h)) (statement_fine c a i (inner x a u (uses.IsInner.branch x a test None h))) (goes_on (λ o. o) (λ o s. goes_none P C gives o))).goes)
+    statement_fine _ _ (typing.IsTypedStmt.while x test body c h e i) u = fine_by _ true _ _ (completes_at x (g.While test body) (h ∙ sym (st.rolls-While test body))) (low_while P result x test body body h refl)
         (goes_on _ (loop_goes test (low_stmt P result body) x.token ((asks x u).while_test test body h) e (holds x test u (uses.IsIn.while_test x test body h)) (statement_fine c body i (inner x body u (uses.IsInner.while_body x body test h))).goes))
-    statement_fine _ _ (typing.IsTypedStmt.for_loop x begin test last body b c d h i e j k) u = fine_by true _ _ (low_for P result x begin begin test last last body body h refl refl refl)
+    statement_fine _ _ (typing.IsTypedStmt.for_loop x begin test last body b c d h i e j k) u = fine_by _ true _ _ (completes_at x (g.For begin test last body) (h ∙ sym (st.rolls-For begin test last body))) (low_for P result x begin begin test last last body body h refl refl refl)
         (let first = statement_fine b begin i (inner x begin u (uses.IsInner.begin x begin test last body h)) in
          let after = statement_fine c last j (inner x last u (uses.IsInner.last x last begin test body h)) in
          let inside = statement_fine d body k (inner x body u (uses.IsInner.for_body x body begin test last h)) in
@@ -356,17 +395,17 @@ module _ (P : Checked) (C : Code) (code : IsCodeOf P.facts C) (locals : List Sta
            let o1 = low_stmt P result begin o in
            then o o1 _ g (loop_goes test (λ o. low_stmt P result last (low_stmt P result body o)) x.token ((asks x u).for_test test begin last body h) e (holds x test u (uses.IsIn.for_test x test begin last body h))
              (λ p q. let m = inside.goes p q in then p (low_stmt P result body p) _ m (after.goes (low_stmt P result body p) (stands p (low_stmt P result body p) q m))) o1 (stands o o1 s g))))
-    statement_fine _ _ (typing.IsTypedStmt.leave x h e) u = fine_by false _ _ (low_return P result x None h) (left x.id x.token e)
-    statement_fine _ _ (typing.IsTypedStmt.give x y h k e) u = fine_by false _ _ (low_return P result x (Some y) h) (returned y x.id x.token k ((asks x u).result y h) e (holds x y u (uses.IsIn.result x y h)))
-    statement_fine _ _ (typing.IsTypedStmt.print x y h e) u = fine_by true _ _ (low_print P result x y h) (goes_on _ (λ o s. prints y x.token ((asks x u).printed y h) e (holds x y u (uses.IsIn.print x y h)) o s))
+    statement_fine _ _ (typing.IsTypedStmt.leave x h e) u = fine_by _ false _ _ (completes_return x None h) (low_return P result x None h) (left x.id x.token e)
+    statement_fine _ _ (typing.IsTypedStmt.give x y h k e) u = fine_by _ false _ _ (completes_return x (Some y) h) (low_return P result x (Some y) h) (returned y x.id x.token k ((asks x u).result y h) e (holds x y u (uses.IsIn.result x y h)))
+    statement_fine _ _ (typing.IsTypedStmt.print x y h e) u = fine_by _ true _ _ (completes_at x (g.Print y) (h ∙ sym (st.rolls-Print y))) (low_print P result x y h) (goes_on _ (λ o s. prints y x.token ((asks x u).printed y h) e (holds x y u (uses.IsIn.print x y h)) o s))
 
-    items_fine : (c : Bool) (xs : List Stmt) → AreTypedStmts F locals result c xs → ((place : ℕ) (y : Stmt) → slice_get xs place ≡ Some y → AreUsed F result y) → IsFine c (lower_all (map (low_stmt P result) xs))
-    items_fine _ _ typing.AreTypedStmts.none u = goes_on _ (λ o s. goes_none P C gives o)
-    items_fine _ _ (typing.AreTypedStmts.last x c t) u = let h = statement_fine c x t (u 0 x refl) in record { goes = h.goes; ends = h.ends }
+    items_fine : (c : Bool) (xs : List Stmt) → AreTypedStmts F locals result c xs → ((place : ℕ) (y : Stmt) → slice_get xs place ≡ Some y → AreUsed F result y) → AreFine xs
+    items_fine _ _ typing.AreTypedStmts.none u = record { goes = λ o s. goes_none P C gives o; ends = λ before o e k. k e }
+    items_fine _ _ (typing.AreTypedStmts.last x c t) u = let h = statement_fine c x t (u 0 x refl) in record { goes = h.goes; ends = λ before o e k. h.ends o e }
     items_fine _ _ (typing.AreTypedStmts.more x xs c d t ts) u =
         let h = statement_fine c x t (u 0 x refl) in
         let k = items_fine d xs ts (λ place y e. u (suc place) y e) in
         record {
           goes = λ o s. let g = h.goes o s in then o (low_stmt P result x o) _ g (k.goes (low_stmt P result x o) (stands o (low_stmt P result x o) s g));
-          ends = λ o e. k.ends (low_stmt P result x o) e;
+          ends = λ before o e q. k.ends (completes x) (low_stmt P result x o) e (h.ends o);
         }
