@@ -3,3 +3,7 @@ pub mod Drafts
 pub mod Around
 pub mod Expressions
 pub mod Statements
+pub mod Bodies
+pub mod Skeleton
+pub mod Members
+pub mod Programs
