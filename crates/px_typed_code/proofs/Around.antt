@@ -1,5 +1,5 @@
 -- What stands around an expression: what the code has of the program's facts, and what the facts promise.
-use Rattle.std.proofs.Common.{◌≡◌, ℕ, zero, suc, ◌+◌, Bool, true, false, List, [], ◌∷◌, ◌++◌, length, map, Option, Some, None, slice_get, refl, sym, ap, ◌∙◌, subst, arith}
+use Rattle.std.proofs.Common.{◌≡◌, ℕ, suc, ◌+◌, true, false, List, [], ◌∷◌, ◌++◌, length, map, Some, None, slice_get, refl, ap, arith}
 use Rattle.px_value.specs.declared.header.Kind.{Kind}
 use Rattle.px_value.specs.declared.statement.Statement.{Statement}
 use Rattle.px_value.specs.declared.statement.Statement.TheVariants as statement
@@ -20,7 +20,7 @@ use Rattle.px_normal.specs.declared.word.Operand.{Operand}
 use Rattle.px_normal.specs.declared.method.Method.{Method}
 use Rattle.px_normal.specs.declared.code.Code.{Code}
 use Rattle.px_normal.specs.First.{numbered}
-use Rattle.px_normal.specs.Typed.{field_type, site_kind, element_type, is_query, HasTy, AreFirst, AreSent, is_sent}
+use Rattle.px_normal.specs.Typed.{field_type, site_kind, element_type, is_query, AreFirst, AreSent, is_sent}
 use Rattle.px_semantics.specs.Typing as typing
 use Rattle.px_semantics.specs.Typing.{AreSendable, IsSendable}
 use Rattle.px_lowering.specs.Types.{code_type, code_result}

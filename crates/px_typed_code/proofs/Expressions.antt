@@ -1,5 +1,5 @@
 -- What an expression is lowered to is typed.
-use Rattle.std.proofs.Common.{◌≡◌, ℕ, zero, suc, ◌+◌, Bool, true, false, List, [], ◌∷◌, ◌++◌, append_assoc, length, length-append, map, Option, Some, None, option_map, slice_get, slice_index_or, refl, sym, ap, ◌∙◌, subst, arith}
+use Rattle.std.proofs.Common.{◌≡◌, ℕ, suc, ◌+◌, Bool, true, false, List, [], ◌∷◌, ◌++◌, append_assoc, length, length-append, map, Option, Some, None, option_map, slice_get, slice_index_or, refl, sym, ap, ◌∙◌, subst}
 use Rattle.px_value.specs.declared.value.Value.{Value}
 use Rattle.px_value.specs.declared.value.Value.TheVariants as value
 use Rattle.px_value.specs.declared.op.Op.{Op}
@@ -10,12 +10,12 @@ use Rattle.px_tree.specs.declared.Sign.{Sign}
 use Rattle.px_tree.specs.declared.Sign.TheVariants as sign
 use Rattle.px_tree.specs.declared.Expr.{Expr}
 use Rattle.px_tree.specs.declared.ExprForm.{ExprForm, ExprForm-F, out-ExprForm, out-roll-ExprForm, roll-ExprForm}
-use Rattle.px_tree.specs.declared.ExprForm.TheVariants.{Number, rolls-Number, Str, rolls-Str, True, rolls-True, False, rolls-False, Null as NullForm, rolls-Null, This, rolls-This, Name, rolls-Name, Group, rolls-Group, Field, rolls-Field, Index, rolls-Index, Call, rolls-Call, NewObject, rolls-NewObject, NewArray, rolls-NewArray, Prefix, rolls-Prefix, Binary, rolls-Binary}
+use Rattle.px_tree.specs.declared.ExprForm.TheVariants.{rolls-Number, rolls-Str, rolls-True, rolls-False, rolls-Null, rolls-This, rolls-Name, rolls-Group, rolls-Field, rolls-Index, Call, rolls-Call, rolls-NewObject, rolls-NewArray, rolls-Prefix, rolls-Binary}
 use Rattle.px_tree.specs.declared.ExprForm.TheOpen.{ExprForm-F as f}
 use Rattle.px_facts.specs.declared.types.Ty.{Ty as Static}
 use Rattle.px_facts.specs.declared.types.Ty.TheVariants as static
 use Rattle.px_facts.specs.declared.types.Element.{Element}
-use Rattle.px_facts.specs.Types.{is_void, is_null, element_type as static_element}
+use Rattle.px_facts.specs.Types.{is_void, element_type as static_element}
 use Rattle.px_facts.specs.declared.checked.Checked.{Checked}
 use Rattle.px_facts.specs.declared.checked.Named.{Named}
 use Rattle.px_facts.specs.declared.checked.Named.TheVariants as named
@@ -23,7 +23,7 @@ use Rattle.px_facts.specs.declared.checked.Facts.{Facts}
 use Rattle.px_facts.specs.declared.checked.MethodFact.{MethodFact}
 use Rattle.px_facts.specs.declared.operation.Operation.{Operation}
 use Rattle.px_semantics.specs.Facts.{type_at, named_at, by_number, fields_of, params_in, operands_in, params_of, op_of, prefix_of, element_number}
-use Rattle.px_semantics.specs.Expressions.{literal, is_operation, operands}
+use Rattle.px_semantics.specs.Expressions.{literal}
 use Rattle.px_semantics.specs.Typing as typing
 use Rattle.px_semantics.specs.Typing.{GivesType, PrefixGives, BinaryGives, Fits, IsVariable, IsMember, IsLibrary, IsSendable, AreSendable, is_select, literal_type, IsTypedExpr, IsReceiver, AreArguments}
 use Rattle.px_normal.specs.declared.ty.Ty.{Ty}
@@ -31,30 +31,27 @@ use Rattle.px_normal.specs.declared.ty.Ty.TheVariants as ty
 use Rattle.px_normal.specs.declared.word.Operand.{Operand}
 use Rattle.px_normal.specs.declared.word.Operand.TheVariants.{Slot, Literal}
 use Rattle.px_normal.specs.declared.method.Tree.{Tree}
-use Rattle.px_normal.specs.declared.method.Tree.TheVariants.{If}
 use Rattle.px_normal.specs.declared.node.Counter.{Counter}
 use Rattle.px_normal.specs.declared.node.Counter.TheVariants.{Begun, Completed}
 use Rattle.px_normal.specs.declared.code.Code.{Code}
-use Rattle.px_normal.specs.First.{numbered}
 use Rattle.px_normal.specs.Typed as typed
 use Rattle.px_normal.specs.Typed.{IsNode, IsLiteral, HasSlot, HasTy, AreFirst, is_query, ResultFits, IsTypedWord, IsTypedTree, AreTypedTrees}
 use Rattle.px_lowering.specs.declared.draft.Draft.{Draft}
 use Rattle.px_lowering.specs.declared.valued.Step.{Step}
 use Rattle.px_lowering.specs.declared.valued.Step.TheVariants as step
 use Rattle.px_lowering.specs.declared.valued.Had.{Had}
-use Rattle.px_lowering.specs.declared.valued.Had.TheVariants.{Held, Chosen, Made}
-use Rattle.px_lowering.specs.Types.{code_type, code_result}
-use Rattle.px_lowering.specs.Emit.{Lasted, Operated, Temped, node_at, noded, with_trees, writes, operand_of, temp_of, slot_of, fitted}
-use Rattle.px_lowering.specs.Expressions.{Lowers, Part, Low, low_value, valued, stands, made, operand_at, fit_to, fitted_operand, name_had, member_had, object_had, array_had, negated, number_in, number_of, literal_behind, prefix_low, two_low, choice, chosen, choice_low, choice_of, by_choice, Receiving, received, Arguing, one_more, arguments, first_of, step_of, step_had, call_low, low, part_of}
+use Rattle.px_lowering.specs.declared.valued.Had.TheVariants.{Held}
+use Rattle.px_lowering.specs.Types.{code_type}
+use Rattle.px_lowering.specs.Emit.{Lasted, node_at, noded, with_trees, writes, operand_of, temp_of, slot_of}
+use Rattle.px_lowering.specs.Expressions.{Lowers, Low, valued, stands, made, operand_at, fit_to, fitted_operand, name_had, member_had, object_had, array_had, negated, number_in, number_of, literal_behind, prefix_low, two_low, choice, choice_low, choice_of, by_choice, Receiving, received, Arguing, one_more, arguments, first_of, step_had, call_low, low, part_of}
 use Rattle.px_lowering.proofs.Forms.{low_number, low_text, low_true, low_false, low_null, low_this, low_name, low_group, low_field, low_index, low_call, low_new_object, low_new_array, low_prefix, low_binary}
 use Rattle.px_lowering.specs.Allocations.{kind_of}
 use Rattle.px_typed_code.specs.Laws.{site_of}
 use Rattle.px_typed_code.specs.Uses as uses
 use Rattle.px_typed_code.specs.Uses.{is_value, is_choice, joins, IsPart, IsUsed}
-use Rattle.px_typed_code.proofs.Operators.{IsPlain, GivesCode, gives_code, prefix_joins_none, SignIs, sign_is, never, never_so}
-use Rattle.px_typed_code.proofs.Operators as operators
-use Rattle.px_typed_code.proofs.Drafts.{Grows, grows_append, OperandFits, has_ty, ty_more, operand_more, StepFits, HadFits, had_more, Goes, goes_none, goes_then, trees_next, node_is, nodes_go, Fine, FineOperand, operated_fine, FineTemp, temped_fine, slotted_goes, fitted_fine, unknown_fine}
-use Rattle.px_typed_code.proofs.Around.{IsMethodOf, IsCodeOf, query_is, value_plain, element_plain, element_is, ArgsFit, args_more, args_first, args_count, args_sent, sendable_value, result_null, result_some, result_none}
+use Rattle.px_typed_code.proofs.Operators.{IsPlain, GivesCode, gives_code, prefix_joins_none, SignIs, sign_is, never}
+use Rattle.px_typed_code.proofs.Drafts.{Grows, grows_append, OperandFits, has_ty, ty_more, operand_more, StepFits, HadFits, Goes, goes_none, goes_then, trees_next, node_is, Fine, FineOperand, operated_fine, temped_fine, slotted_goes, fitted_fine, unknown_fine}
+use Rattle.px_typed_code.proofs.Around.{IsCodeOf, query_is, value_plain, element_plain, element_is, ArgsFit, args_more, args_first, args_count, args_sent, sendable_value, result_null, result_some, result_none}
 
 module _ (P : Checked) (C : Code) (gives : Option Ty) (code : IsCodeOf P.facts C) (locals : List Static) (values : (place : ℕ) (t : Static) → slice_get locals place ≡ Some t → is_value t ≡ true) where
   abbrev F : Facts

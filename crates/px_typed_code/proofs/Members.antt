@@ -1,5 +1,5 @@
 -- Where methods, fields and sites stand in lowered code, with their nodes.
-use Rattle.std.proofs.Common.{◌≡◌, ℕ, zero, suc, ◌+◌, List, [], ◌∷◌, ◌++◌, length, length-append, map, Option, Some, None, slice_get, refl, sym, ap, ◌∙◌, subst, arith}
+use Rattle.std.proofs.Common.{◌≡◌, ℕ, zero, suc, ◌+◌, List, [], ◌∷◌, ◌++◌, length, length-append, Option, Some, None, slice_get, refl, sym, ap, ◌∙◌, subst, arith}
 use Rattle.px_value.specs.declared.header.Kind.{Kind}
 use Rattle.px_value.specs.declared.header.Kind.TheVariants as kind
 use Rattle.px_tree.specs.declared.Class.{Class}
@@ -8,7 +8,6 @@ use Rattle.px_tree.specs.declared.Member.TheVariants as member
 use Rattle.px_tree.specs.declared.Method.{Method}
 use Rattle.px_facts.specs.declared.types.Ty.{Ty as Static}
 use Rattle.px_facts.specs.declared.checked.Checked.{Checked}
-use Rattle.px_facts.specs.declared.checked.Facts.{Facts}
 use Rattle.px_facts.specs.declared.checked.ClassFact.{ClassFact}
 use Rattle.px_facts.specs.declared.checked.MethodFact.{MethodFact}
 use Rattle.px_normal.specs.declared.class.Class.{Class as CodeClass}
@@ -17,10 +16,9 @@ use Rattle.px_normal.specs.declared.method.Method.{Method as CodeMethod}
 use Rattle.px_normal.specs.declared.node.Node.{Node}
 use Rattle.px_normal.specs.declared.code.Site.{Site}
 use Rattle.px_normal.specs.First.{numbered}
-use Rattle.px_lowering.specs.declared.draft.Draft.{Draft}
 use Rattle.px_lowering.specs.declared.allocations.Allocation.{Allocation}
 use Rattle.px_lowering.specs.Types.{code_type}
-use Rattle.px_lowering.specs.Programs.{lowered_body, method_of, Methods, lowered_methods, field_node, field_of, Fields, lowered_fields, class_of, Classes, lowered_classes, site, site_node, Sites, element_site, with_site, lowered_sites}
+use Rattle.px_lowering.specs.Programs.{lowered_body, method_of, lowered_methods, field_node, field_of, lowered_fields, class_of, lowered_classes, site, site_node, Sites, with_site, lowered_sites}
 use Rattle.px_typed_code.specs.Laws.{fields_in, AreKnown, IsKnownKind}
 use Rattle.px_typed_code.proofs.Drafts.{Grows, grows_none, grows_append, last_get}
 

@@ -1,20 +1,18 @@
 -- What an operator gives of static types, code has it give of its own.
-use Rattle.std.proofs.Common.{◌≡◌, ℕ, Bool, true, false, ◌&&◌, ◌||◌, Option, Some, None, refl, sym, ap, ◌∙◌}
+use Rattle.std.proofs.Common.{◌≡◌, Bool, true, false, Some, None, refl, ap, ◌∙◌}
 use Rattle.px_value.specs.declared.op.Op.{Op}
 use Rattle.px_value.specs.declared.op.Op.TheVariants as op
 use Rattle.px_tree.specs.declared.Sign.{Sign}
 use Rattle.px_tree.specs.declared.Sign.TheVariants as sign
 use Rattle.px_facts.specs.declared.types.Ty.{Ty as Static}
 use Rattle.px_facts.specs.declared.types.Ty.TheVariants as static
-use Rattle.px_facts.specs.declared.types.Element.{Element}
-use Rattle.px_facts.specs.declared.types.Element.TheVariants as element
-use Rattle.px_facts.specs.Types.{is_void, is_null, is_text, is_printable, element_type as static_element}
+use Rattle.px_facts.specs.Types.{is_void, is_null}
 use Rattle.px_semantics.specs.Facts.{op_of, prefix_of}
 use Rattle.px_semantics.specs.Typing as typing
 use Rattle.px_semantics.specs.Typing.{Promotes, IsArithmetic, IsOfBits, IsShift, IsOrder, IsEquality, IsObject, AreCompared, GivesType, PrefixGives, BinaryGives}
 use Rattle.px_normal.specs.declared.ty.Ty.{Ty}
 use Rattle.px_normal.specs.declared.ty.Ty.TheVariants as ty
-use Rattle.px_normal.specs.Typed.{is_reference, wide, number_type, if_any, bits_type, compared_type, is_text as is_code_text, is_printed, op_type, element_type}
+use Rattle.px_normal.specs.Typed.{wide, number_type, if_any, bits_type, compared_type, op_type}
 use Rattle.px_lowering.specs.Types.{code_type}
 use Rattle.px_lowering.specs.Expressions.{choice_of}
 use Rattle.px_typed_code.specs.Uses.{joins, is_choice}

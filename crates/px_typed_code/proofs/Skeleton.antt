@@ -1,17 +1,13 @@
 -- Some code that has what the facts of a program say, without bodies: with it, that slots and nodes grow is known before any body is.
-use Rattle.std.proofs.Common.{◌≡◌, ℕ, zero, suc, ◌+◌, true, false, List, [], ◌∷◌, ◌++◌, append-nil, length, map, Option, Some, None, option_map, slice_get, refl, sym, ap, ◌∙◌, subst}
+use Rattle.std.proofs.Common.{◌≡◌, ℕ, zero, suc, true, false, List, [], ◌∷◌, append-nil, length, map, Option, Some, None, option_map, slice_get, refl, sym, ap, ◌∙◌}
 use Rattle.std.proofs.lemmas.Option.{slice_get-map}
-use Rattle.px_value.specs.declared.header.Kind.{Kind}
-use Rattle.px_tree.specs.declared.Method.{Method}
 use Rattle.px_facts.specs.declared.types.Ty.{Ty as Static}
 use Rattle.px_facts.specs.declared.checked.Checked.{Checked}
-use Rattle.px_facts.specs.declared.checked.Facts.{Facts}
 use Rattle.px_facts.specs.declared.checked.ClassFact.{ClassFact}
 use Rattle.px_facts.specs.declared.checked.MethodFact.{MethodFact}
-use Rattle.px_facts.specs.declared.operation.Operation.{Operation}
-use Rattle.px_semantics.specs.Facts.{type_at, named_at, by_number, fields_of, fields_in}
+use Rattle.px_semantics.specs.Facts.{by_number, fields_in}
 use Rattle.px_semantics.specs.Program.{methods_of, source_from}
-use Rattle.px_semantics.specs.Typing.{IsTyped as IsTypedSource, is_select}
+use Rattle.px_semantics.specs.Typing.{IsTyped as IsTypedSource}
 use Rattle.px_normal.specs.declared.ty.Ty.{Ty}
 use Rattle.px_normal.specs.declared.ty.Ty.TheVariants as ty
 use Rattle.px_normal.specs.declared.class.Class.{Class as CodeClass}
@@ -20,15 +16,14 @@ use Rattle.px_normal.specs.declared.method.Method.{Method as CodeMethod}
 use Rattle.px_normal.specs.declared.code.Code.{Code}
 use Rattle.px_normal.specs.declared.code.Site.{Site}
 use Rattle.px_normal.specs.First.{numbered, fields_in as code_fields_in}
-use Rattle.px_normal.specs.Typed.{field_type, type_of, site_kind, kind_of as kind_in}
+use Rattle.px_normal.specs.Typed.{type_of, kind_of as kind_in}
 use Rattle.px_lowering.specs.declared.allocations.Allocation.{Allocation}
 use Rattle.px_lowering.specs.Types.{code_type, code_result}
-use Rattle.px_lowering.specs.Allocations.{kind_of}
 use Rattle.px_lowering.specs.Programs.{allocations, statement_of}
 use Rattle.px_typed_code.specs.Uses.{is_value}
-use Rattle.px_typed_code.specs.Laws.{site_of, AreUsedWell}
+use Rattle.px_typed_code.specs.Laws.{AreUsedWell}
 use Rattle.px_typed_code.proofs.Drafts.{grows_append}
-use Rattle.px_typed_code.proofs.Around.{IsMethodOf, IsCodeOf}
+use Rattle.px_typed_code.proofs.Around.{IsCodeOf}
 
 abbrev bare_method : MethodFact → CodeMethod
 bare_method fact = record { class = fact.class; name = []; node = 0; entry = false; params = length fact.params; gives = code_result fact.result; slots = ty.Object fact.class ∷ map code_type fact.params; body = [] }

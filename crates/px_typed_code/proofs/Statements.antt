@@ -1,14 +1,11 @@
 -- What a statement is lowered to is typed, and doesn't run past its end where the statement can't complete normally.
-use Rattle.std.proofs.Common.{◌≡◌, ℕ, zero, suc, ◌+◌, Bool, true, false, ◌||◌, List, [], ◌∷◌, ◌++◌, length, map, Option, Some, None, option_map, slice_get, refl, sym, ap, ◌∙◌, subst}
+use Rattle.std.proofs.Common.{◌≡◌, ℕ, suc, ◌+◌, Bool, true, false, ◌||◌, List, [], ◌∷◌, length, map, Option, Some, None, slice_get, refl, sym, ap, ◌∙◌, subst}
 use Rattle.px_value.specs.declared.op.Op.{Op}
 use Rattle.px_value.specs.declared.op.Op.TheVariants as op
-use Rattle.px_tree.specs.declared.Name.{Name as NameData}
 use Rattle.px_tree.specs.declared.Expr.{Expr}
 use Rattle.px_tree.specs.declared.ExprForm.{ExprForm, ExprForm-F, out-ExprForm, out-roll-ExprForm, roll-ExprForm}
-use Rattle.px_tree.specs.declared.ExprForm.TheVariants.{Number, rolls-Number, Str, rolls-Str, True, rolls-True, False, rolls-False, Null as NullForm, rolls-Null, This, rolls-This, Name, rolls-Name, Group, rolls-Group, Field, rolls-Field, Index, rolls-Index, Call, rolls-Call, NewObject, rolls-NewObject, NewArray, rolls-NewArray, Prefix, rolls-Prefix, Binary, rolls-Binary}
+use Rattle.px_tree.specs.declared.ExprForm.TheVariants.{rolls-Number, rolls-Str, rolls-True, rolls-False, rolls-Null, rolls-This, rolls-Name, rolls-Group, rolls-Field, rolls-Index, rolls-Call, rolls-NewObject, rolls-NewArray, rolls-Prefix, rolls-Binary}
 use Rattle.px_tree.specs.declared.ExprForm.TheOpen.{ExprForm-F as f}
-use Rattle.px_tree.specs.declared.TypeName.{TypeName}
-use Rattle.px_tree.specs.declared.Sign.{Sign}
 use Rattle.px_tree.specs.declared.Stmt.{Stmt, fold_out-Stmt}
 use Rattle.px_tree.specs.declared.StmtForm.{StmtForm, StmtForm-F, fold-StmtForm, fold-roll-StmtForm, roll-StmtForm, map-StmtForm}
 use Rattle.px_tree.specs.declared.StmtForm.TheVariants as st
@@ -16,7 +13,7 @@ use Rattle.px_tree.specs.declared.StmtForm.TheOpen.{StmtForm-F as g}
 use Rattle.px_facts.specs.declared.types.Ty.{Ty as Static}
 use Rattle.px_facts.specs.declared.types.Ty.TheVariants as static
 use Rattle.px_facts.specs.declared.types.Element.{Element}
-use Rattle.px_facts.specs.Types.{is_void, is_null, is_printable, element_type as static_element}
+use Rattle.px_facts.specs.Types.{is_void, is_printable, element_type as static_element}
 use Rattle.px_facts.specs.declared.checked.Checked.{Checked}
 use Rattle.px_facts.specs.declared.checked.Named.{Named}
 use Rattle.px_facts.specs.declared.checked.Named.TheVariants as named
@@ -30,27 +27,24 @@ use Rattle.px_normal.specs.declared.ty.Ty.TheVariants as ty
 use Rattle.px_normal.specs.declared.word.Operand.{Operand}
 use Rattle.px_normal.specs.declared.word.Operand.TheVariants.{Slot, Literal}
 use Rattle.px_normal.specs.declared.word.Word.TheVariants as w
-use Rattle.px_normal.specs.declared.method.Tree.{Tree}
-use Rattle.px_normal.specs.declared.method.Tree.TheVariants.{If, Loop}
 use Rattle.px_normal.specs.declared.node.Counter.{Counter}
 use Rattle.px_normal.specs.declared.node.Counter.TheVariants.{Begun, Completed}
 use Rattle.px_normal.specs.declared.code.Code.{Code}
 use Rattle.px_normal.specs.Typed as typed
 use Rattle.px_normal.specs.Typed.{IsNode, IsLiteral, HasSlot, HasTy, is_printed, IsTypedTree, AreTypedTrees, Stops}
 use Rattle.px_lowering.specs.declared.draft.Draft.{Draft}
-use Rattle.px_lowering.specs.declared.valued.Step.{Step}
 use Rattle.px_lowering.specs.declared.valued.Step.TheVariants as step
 use Rattle.px_lowering.specs.declared.valued.Had.{Had}
 use Rattle.px_lowering.specs.declared.valued.Had.TheVariants.{Held, Chosen, Made}
 use Rattle.px_lowering.specs.Types.{code_type, code_result}
-use Rattle.px_lowering.specs.Emit.{Lasted, Operated, node_at, noded, with_trees, emitted, operand_of, slot_of}
-use Rattle.px_lowering.specs.Expressions.{Part, operand_at, fit_to, fitted_operand, low, part_of, put_by, put_name, put_member, put_element, put_form, put_low}
-use Rattle.px_lowering.specs.Statements.{whole, last_completes, completes_step, completes, Steps, lower_all, lower_if, store, local_low, change, compound_low, by_one_low, without_result, unused, call_low, branched, if_low, tested, looped, loop_low, for_low, return_low, print_low, low_stmt}
+use Rattle.px_lowering.specs.Emit.{Lasted, Operated, node_at, noded, with_trees, emitted, slot_of}
+use Rattle.px_lowering.specs.Expressions.{operand_at, fit_to, fitted_operand, low, part_of, put_name, put_member, put_element, put_form, put_low}
+use Rattle.px_lowering.specs.Statements.{whole, last_completes, completes_step, completes, Steps, lower_all, lower_if, store, change, compound_low, by_one_low, without_result, unused, branched, if_low, loop_low, return_low, print_low, low_stmt}
 use Rattle.px_lowering.proofs.StmtForms.{completes_block, completes_return, completes_if, low_block, low_empty, low_local, low_assign, low_compound, low_up, low_down, low_call, low_if, low_while, low_for, low_return, low_print}
 use Rattle.px_typed_code.specs.Uses as uses
 use Rattle.px_typed_code.specs.Uses.{is_value, is_result, joins, IsUsed, IsIn, IsInner, IsAskedOf, AreUsed}
 use Rattle.px_typed_code.proofs.Operators.{IsPlain, GivesCode, gives_code, never, never_so}
-use Rattle.px_typed_code.proofs.Drafts.{Grows, grows_none, grows_append, OperandFits, has_ty, ty_more, operand_more, HadFits, Goes, goes_none, goes_then, trees_next, node_is, emits, Fine, FineOperand, slotted_goes}
+use Rattle.px_typed_code.proofs.Drafts.{grows_none, grows_append, OperandFits, has_ty, ty_more, HadFits, Goes, goes_none, goes_then, trees_next, node_is, emits, Fine, FineOperand, slotted_goes}
 use Rattle.px_typed_code.proofs.Around.{IsCodeOf, value_plain, element_plain, element_is, result_some}
 use Rattle.px_typed_code.proofs.Expressions as expressions
 

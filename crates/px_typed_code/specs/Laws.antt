@@ -1,5 +1,5 @@
 -- What is promised of the code of a typed program.
-use Rattle.std.specs.Prelude.{◌≡◌, ℕ, suc, true, false, List, [], ◌∷◌, length, Option, Some, None, slice_get}
+use Rattle.std.specs.Prelude.{◌≡◌, ℕ, suc, true, List, [], ◌∷◌, length, Option, Some, None, slice_get}
 use Rattle.px_value.specs.declared.header.Kind.{Kind}
 use Rattle.px_value.specs.declared.header.Kind.TheVariants as kind
 use Rattle.px_tree.specs.declared.Class.{Class}
@@ -8,8 +8,6 @@ use Rattle.px_tree.specs.declared.Member.TheVariants as member
 use Rattle.px_tree.specs.declared.Method.{Method}
 use Rattle.px_tree.specs.declared.FieldDecl.{FieldDecl}
 use Rattle.px_facts.specs.declared.types.Ty.{Ty}
-use Rattle.px_facts.specs.declared.types.Element.{Element}
-use Rattle.px_facts.specs.declared.types.Element.TheVariants as element
 use Rattle.px_facts.specs.declared.checked.Checked.{Checked}
 use Rattle.px_facts.specs.declared.checked.Facts.{Facts}
 use Rattle.px_facts.specs.declared.checked.ClassFact.{ClassFact}

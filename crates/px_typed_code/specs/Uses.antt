@@ -1,5 +1,5 @@
 -- What typed code asks of a program's facts beside their typing rules, which tell less: what the type rules let be tested, indexed, joined and printed.
-use Rattle.std.specs.Prelude.{◌≡◌, ℕ, Bool, true, false, ◌&&◌, ◌||◌, List, Option, Some, None, slice_get}
+use Rattle.std.specs.Prelude.{◌≡◌, ℕ, Bool, true, false, ◌&&◌, ◌||◌, List, Option, Some, slice_get}
 use Rattle.px_value.specs.declared.op.Op.TheVariants as op
 use Rattle.px_tree.specs.declared.Sign.{Sign}
 use Rattle.px_tree.specs.declared.Sign.TheVariants as sign
