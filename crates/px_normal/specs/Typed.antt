@@ -276,6 +276,7 @@ pub record IsTypedEntry (code : Code) (method : Method) (behind : List Ty) : Typ
 
 -- `this` is in slot 0, and behind it stand the parameters
 pub record IsTypedMethod (code : Code) (method : Method) : Type 0 where
+  pub class : IsClass code method.class
   pub node : IsNode code method.node
   pub behind : List Ty
   pub slots : method.slots ≡ ty.Object method.class ∷ behind
@@ -292,6 +293,7 @@ IsSiteNode code (kind.Object class) node = node ≡ None
 IsSiteNode code k node = (n : ℕ) × (node ≡ Some n) × IsNode code n
 
 pub record IsTyped (code : Code) : Type 0 where
+  pub main : IsClass code code.main
   pub methods : (number : ℕ) (method : Method) → numbered code.methods number ≡ Some method → IsTypedMethod code method
   pub sites : (number : ℕ) (site : Site) → numbered code.sites number ≡ Some site → IsKind code site.kind × IsSiteNode code site.kind site.node
   pub fields : (class place : ℕ) (field : Field) → slice_get (fields_of code class) place ≡ Some field → IsNode code field.node

@@ -228,6 +228,7 @@ module _ (P : Checked) (source : IsTypedSource (source_from P)) (used : AreUsedW
       let first = nodes ++ method_node P (1 + place) m ∷ [] in
       let room : length fact.params ≤ length (map code_type fact.params ++ s.0) = omega (arith, length-append (map code_type fact.params) s.0, length-map fact.params code_type) in
       let mine : IsTypedMethod (lowered P) (method_of P m fact (length nodes) o) = record {
+        class = let c = used.owners (suc place) fact there.3 in class_is fact.class c.0 c.1;
         node = made_node (length nodes + 1) (node_more first made.nodes (length nodes + 1) (λ i x e. r.2.grows i x (b.goes.nodes i x e)) (next_node nodes (method_node P (1 + place) m)));
         behind = map code_type fact.params ++ s.0;
         slots = s.1;
@@ -246,7 +247,7 @@ module _ (P : Checked) (source : IsTypedSource (source_from P)) (used : AreUsedW
 
   pub code_typed : IsTyped (lowered P)
   unfolding lowered
-  code_typed = record { methods = method_typed; sites = site_typed; fields = λ class place f h. field_node class place f (slice_get kinds.classes class) refl h }
+  code_typed = record { main = class_is F.main.class used.main.0 used.main.1; methods = method_typed; sites = site_typed; fields = λ class place f h. field_node class place f (slice_get kinds.classes class) refl h }
 
 pub lowered_is_typed : LoweredIsTyped
 lowered_is_typed P source used = code_typed P source used

@@ -67,9 +67,12 @@ pub record AreUsedWell (P : Checked) : Type 0 where
   pub classes : AreKnown P.program.classes P.facts.classes
   -- a field has a type of values
   pub fields : (class place : ℕ) (t : Ty) → slice_get (fields_of P.facts class) place ≡ Some t → is_value t ≡ true
-  -- so has each slot, and a result unless it is void; a method's class is known
+  -- so has each slot, and a result unless it is void
   pub slots : (number place : ℕ) (fact : MethodFact) (t : Ty) → by_number P.facts.methods number ≡ Some fact → slice_get fact.slots place ≡ Some t → is_value t ≡ true
   pub results : (number : ℕ) (fact : MethodFact) → by_number P.facts.methods number ≡ Some fact → is_result fact.result ≡ true
+  -- the class of each method is known, and so is the main class
+  pub owners : (number : ℕ) (fact : MethodFact) → by_number P.facts.methods number ≡ Some fact → IsKnownClass P.facts fact.class
+  pub main : IsKnownClass P.facts P.facts.main.class
   -- the parts of each body are used as the type rules say
   pub bodies : (number : ℕ) (m : Method) (fact : MethodFact) → by_number (methods_of P.program.classes) number ≡ Some m → by_number P.facts.methods number ≡ Some fact → AreUsed P.facts fact.result m.body
   -- the numbers of sites are those of the allocations in the text
