@@ -1,5 +1,6 @@
 -- The code of a typed program is typed.
-use Rattle.std.proofs.Common.{◌≡◌, ℕ, zero, suc, ◌+◌, ◌≤◌, true, List, [], ◌∷◌, ◌++◌, length, length-append, map, Option, Some, None, slice_get, refl, sym, ap, ◌∙◌, subst, arith}
+use Rattle.std.proofs.Common.{◌≡◌, ℕ, zero, suc, ◌+◌, ◌≤◌, true, List, [], ◌∷◌, ◌++◌, length, length-append, map, Option, Some, None, option_map, slice_get, refl, sym, ap, ◌∙◌, subst, arith, nat_eq, Bool, false, ◌&&◌}
+use Rattle.std.proofs.lemmas.Bool.{eq-eqb}
 use Rattle.std.proofs.lemmas.List.{length-map}
 use Rattle.px_value.specs.declared.header.Kind.{Kind}
 use Rattle.px_value.specs.declared.header.Kind.TheVariants as kind
@@ -29,8 +30,8 @@ use Rattle.px_normal.specs.Typed as typed
 use Rattle.px_normal.specs.Typed.{IsNode, IsClass, IsType, IsKind, IsSiteNode, field_type, type_of, site_kind, kind_of as kind_in, is_plain, ArePlain, IsPlainResult, IsTypedEntry, IsTypedMethod, IsTyped}
 use Rattle.px_lowering.specs.declared.allocations.Allocation.{Allocation}
 use Rattle.px_lowering.specs.Types.{code_type, code_result}
-use Rattle.px_lowering.specs.Programs.{first_types, begun, method_node, lowered_body, is_entry, method_of, Methods, lowered_methods, Classes, lowered_fields, lowered_classes, allocations, Sites, lowered_sites, statement_of, lowered}
-use Rattle.px_typed_code.specs.Laws.{IsKnownElement, IsKnownKind, AreUsedWell, LoweredIsTyped}
+use Rattle.px_lowering.specs.Programs.{is_public, first_types, begun, method_node, lowered_body, is_entry, method_of, Methods, lowered_methods, Classes, lowered_fields, lowered_classes, allocations, Sites, lowered_sites, statement_of, lowered}
+use Rattle.px_typed_code.specs.Laws.{entry_type, IsEntryOf, EntriesAreMethods, IsKnownElement, IsKnownKind, AreUsedWell, LoweredIsTyped}
 use Rattle.px_typed_code.proofs.Drafts.{Grows, grows_none, grows_append}
 use Rattle.px_typed_code.proofs.Around.{IsMethodOf, IsCodeOf}
 use Rattle.px_typed_code.proofs.Bodies.{IsFineBody, body_fine, slots_are}
@@ -249,5 +250,53 @@ module _ (P : Checked) (source : IsTypedSource (source_from P)) (used : AreUsedW
   unfolding lowered
   code_typed = record { main = class_is F.main.class used.main.0 used.main.1; methods = method_typed; sites = site_typed; fields = λ class place f h. field_node class place f (slice_get kinds.classes class) refl h }
 
+  -- ---- entries of jobs
+
+  entry_gives : (t : Option Outer) → code_result (given_type t) ≡ option_map entry_type t
+  entry_gives None = refl
+  entry_gives (Some outer.Int) = refl
+  entry_gives (Some outer.Long) = refl
+  entry_gives (Some outer.Bool) = refl
+  entry_gives (Some outer.Text) = refl
+  entry_gives (Some outer.Ref) = refl
+
+  types_are : (ts : List Outer) → map code_type (map inner_type ts) ≡ map entry_type ts
+  types_are [] = refl
+  types_are (t ∷ ts) = ap (λ (xs : List Ty). entry_type t ∷ xs) (types_are ts)
+
+  same_number : (n : ℕ) → nat_eq n n ≡ true
+  same_number n = eq-eqb n n refl
+
+  both_true : (a b : Bool) → a ≡ true → b ≡ true → (a && b) ≡ true
+  both_true true b h k = k
+  both_true false b h k = absurd (cc h)
+
+  number_entry : (e : Entry) (number : ℕ) → e.method ≡ number → (fact : MethodFact) → by_number F.methods number ≡ Some fact → fact.class ≡ F.main.class → fact.params ≡ map inner_type e.params → fact.result ≡ given_type e.gives → ((m : Method) → by_number ms e.method ≡ Some m → is_public m.access ≡ true) → IsEntryOf (lowered P) e
+  unfolding lowered
+  number_entry e zero n fact k class params result public = absurd (cc k)
+  number_entry e (suc place) n fact k class params result public =
+      let t = source.methods (suc place) fact k in
+      let m = t.0 in
+      let r = known_at P 1 ms F.methods [] bodies_grow place m fact t.1 k in
+      let o = lowered_body P (1 + place) m fact r.2.nodes in
+      let s = slots_are fact t.2.locals o.slots t.2.slots (slots_grow place m fact t.1 k r.2.nodes) in
+      let mine : method_of P m fact (length r.2.nodes) o ≡ r.0 = sym r.2.is in
+      let types : map code_type fact.params ≡ map entry_type e.params = ap (λ (ts : List Static). map code_type ts) params ∙ types_are e.params in
+      let same : nat_eq fact.class F.main.class ≡ true = ap (λ c. nat_eq c F.main.class) class ∙ same_number F.main.class in
+      record {
+        method = r.0;
+        is = ap (numbered made.methods) n ∙ r.1;
+        entry = ap (λ (x : CodeMethod). x.entry) r.2.is ∙ both_true (is_public m.access) (nat_eq fact.class F.main.class) (public m (ap (by_number ms) n ∙ t.1)) same;
+        params = ap (λ (x : CodeMethod). x.params) r.2.is ∙ ap length params ∙ length-map e.params inner_type;
+        behind = s.0;
+        slots = ap (λ (x : CodeMethod). x.slots) r.2.is ∙ s.1 ∙ (λ i. ty.Object (class i) ∷ (types i ++ s.0));
+        gives = ap (λ (x : CodeMethod). x.gives) r.2.is ∙ ap code_result result ∙ entry_gives e.gives;
+      }
+
 pub lowered_is_typed : LoweredIsTyped
 lowered_is_typed P source used = code_typed P source used
+
+pub entries_are_methods : EntriesAreMethods
+entries_are_methods P source used public place e h =
+    let t = source.entries place e h in
+    number_entry P source used e e.method refl t.fact t.fact_is t.class t.params t.result (λ m k. public place e m h k)

@@ -1,7 +1,8 @@
 -- What is promised of the code of a typed program.
-use Rattle.std.specs.Prelude.{◌≡◌, ℕ, suc, true, List, [], ◌∷◌, length, Option, Some, None, slice_get}
+use Rattle.std.specs.Prelude.{◌≡◌, ℕ, suc, true, List, [], ◌∷◌, length, Option, Some, None, slice_get, ◌++◌, map, option_map}
 use Rattle.px_value.specs.declared.header.Kind.{Kind}
 use Rattle.px_value.specs.declared.header.Kind.TheVariants as kind
+use Rattle.px_value.specs.declared.ty.Ty.{Ty as Outer}
 use Rattle.px_tree.specs.declared.Class.{Class}
 use Rattle.px_tree.specs.declared.Member.{Member}
 use Rattle.px_tree.specs.declared.Member.TheVariants as member
@@ -18,11 +19,17 @@ use Rattle.px_facts.specs.declared.checked.Named.TheVariants as named
 use Rattle.px_facts.specs.declared.operation.Operation.{Operation}
 use Rattle.px_semantics.specs.Facts.{type_at, named_at, by_number, fields_of}
 use Rattle.px_semantics.specs.Program.{methods_of, source_from}
-use Rattle.px_semantics.specs.Typing.{IsTyped as IsTypedSource, is_select}
+use Rattle.px_semantics.specs.Typing.{IsTyped as IsTypedSource, is_select, inner_type}
+use Rattle.px_normal.specs.declared.ty.Ty.{Ty as CodeTy}
+use Rattle.px_normal.specs.declared.ty.Ty.TheVariants as code_ty
+use Rattle.px_normal.specs.declared.method.Method.{Method as CodeMethod}
+use Rattle.px_normal.specs.declared.code.Code.{Code}
+use Rattle.px_normal.specs.First.{numbered}
 use Rattle.px_normal.specs.Typed.{IsTyped}
 use Rattle.px_lowering.specs.declared.allocations.Allocation.{Allocation}
 use Rattle.px_lowering.specs.Allocations.{kind_of}
-use Rattle.px_lowering.specs.Programs.{allocations, is_entry, lowered}
+use Rattle.px_lowering.specs.Programs.{allocations, is_public, is_entry, lowered}
+use Rattle.px_lowering.specs.Types.{code_type}
 use Rattle.px_typed_code.specs.Uses.{is_value, is_result, AreUsed}
 
 -- ---- classes
@@ -86,3 +93,26 @@ pub record AreUsedWell (P : Checked) : Type 0 where
 -- Lowering makes typed code.
 abbrev pub LoweredIsTyped : Type 0
 LoweredIsTyped = (P : Checked) → IsTypedSource (source_from P) → AreUsedWell P → IsTyped (lowered P)
+
+-- ---- entries
+
+-- a type of a job's, as code has it
+abbrev pub entry_type : Outer → CodeTy
+entry_type t = code_type (inner_type t)
+
+-- an entry is a method that jobs may call, with its parameters and its result
+pub record IsEntryOf (code : Code) (e : Entry) : Type 0 where
+  pub method : CodeMethod
+  pub is : numbered code.methods e.method ≡ Some method
+  pub entry : method.entry ≡ true
+  pub params : method.params ≡ length e.params
+  pub behind : List CodeTy
+  pub slots : method.slots ≡ code_ty.Object code.main ∷ (map entry_type e.params ++ behind)
+  pub gives : method.gives ≡ option_map entry_type e.gives
+
+-- an entry is a public method
+abbrev pub ArePublic : Checked → Type 0
+ArePublic P = (place : ℕ) (entry : Entry) (m : Method) → slice_get P.facts.main.entries place ≡ Some entry → by_number (methods_of P.program.classes) entry.method ≡ Some m → is_public m.access ≡ true
+
+abbrev pub EntriesAreMethods : Type 0
+EntriesAreMethods = (P : Checked) → IsTypedSource (source_from P) → AreUsedWell P → ArePublic P → (place : ℕ) (entry : Entry) → slice_get P.facts.main.entries place ≡ Some entry → IsEntryOf (lowered P) entry
