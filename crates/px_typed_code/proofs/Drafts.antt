@@ -1,5 +1,5 @@
 -- What each step of lowering keeps: slots and nodes only grow, and what is emitted is typed.
-use Rattle.std.proofs.Common.{◌≡◌, ℕ, zero, suc, ◌+◌, true, false, List, [], ◌∷◌, ◌++◌, length, Option, Some, None, slice_get, refl, sym, ap, ◌∙◌, subst, arith}
+use Rattle.std.proofs.Common.{◌≡◌, ℕ, zero, suc, ◌+◌, true, false, List, [], ◌∷◌, ◌++◌, length, Option, Some, None, slice_get, refl, sym, ap, ◌∙◌, subst, arith, length-append}
 use Rattle.px_value.specs.declared.value.Value.TheVariants as value
 use Rattle.px_facts.specs.declared.types.Ty.{Ty as Static}
 use Rattle.px_facts.specs.declared.types.Ty.TheVariants as static
@@ -15,6 +15,7 @@ use Rattle.px_normal.specs.declared.word.Operand.TheVariants.{Slot, Literal}
 use Rattle.px_normal.specs.declared.word.Word.{Word}
 use Rattle.px_normal.specs.declared.word.Word.TheVariants as w
 use Rattle.px_normal.specs.declared.method.Tree.{Tree}
+use Rattle.px_normal.specs.declared.method.Tree.TheVariants.{Do}
 use Rattle.px_normal.specs.declared.node.Node.{Node}
 use Rattle.px_normal.specs.declared.node.Counter.{Counter}
 use Rattle.px_normal.specs.declared.code.Code.{Code}
@@ -27,7 +28,9 @@ use Rattle.px_lowering.specs.declared.valued.Step.TheVariants as step
 use Rattle.px_lowering.specs.declared.valued.Had.{Had}
 use Rattle.px_lowering.specs.declared.valued.Had.TheVariants.{Held, Chosen, Made}
 use Rattle.px_lowering.specs.Types.{code_type}
-use Rattle.px_lowering.specs.Emit.{Lasted, Operated, Temped, node_at, noded, emitted, writes, with_temp, operated, temped, slotted, widened_operand, widened, fitted}
+use Rattle.px_lowering.specs.Emit.{Lasted, Operated, Temped, node_at, emitted, writes, with_temp, operated, temped, slotted, widened_operand, widened, fitted}
+use Rattle.px_typed_code.specs.Nodes.{nodes_in, all_nodes}
+use Rattle.px_typed_code.proofs.Counted.{IsCounted, counted_then, counted_none, counted_first, counted_by, nodes_do, all_next}
 use Rattle.px_typed_code.proofs.Operators.{never, never_so}
 
 -- ---- lists that grow
@@ -115,20 +118,22 @@ module _ (P : Checked) (C : Code) (gives : Option Ty) where
   abbrev pub Trees : List Ty → Draft → Type 0
   Trees slots o = AreTypedTrees C gives slots o.trees
 
-  -- From one draft to the next slots and nodes grow, and statements stay typed, over the slots and the nodes that there are in the end.
+  -- From one draft to the next slots and nodes grow, statements stay typed, over the slots and the nodes that there are in the end, and their nodes stay in order.
   pub record Goes (o o' : Draft) : Type 0 where
     pub slots : Grows o.slots o'.slots
     pub nodes : Grows o.nodes o'.nodes
     pub trees : (slots : List Ty) → Grows o'.slots slots → Grows o'.nodes C.nodes → Trees slots o → Trees slots o'
+    pub order : (first : ℕ) → IsCounted first (all_nodes o.trees) (length o.nodes) → IsCounted first (all_nodes o'.trees) (length o'.nodes)
 
   pub goes_none : (o : Draft) → Goes o o
-  goes_none o = record { slots = λ place x h. h; nodes = λ place x h. h; trees = λ slots g n h. h }
+  goes_none o = record { slots = λ place x h. h; nodes = λ place x h. h; trees = λ slots g n h. h; order = λ first h. h }
 
   pub goes_then : (a b c : Draft) → Goes a b → Goes b c → Goes a c
   goes_then a b c x y = record {
     slots = λ place t h. y.slots place t (x.slots place t h);
     nodes = λ place t h. y.nodes place t (x.nodes place t h);
     trees = λ slots g n h. y.trees slots g n (x.trees slots (λ place t e. g place t (y.slots place t e)) (λ place t e. n place t (y.nodes place t e)) h);
+    order = λ first h. y.order first (x.order first h);
   }
 
   pub trees_next : (slots : List Ty) (ts : List Tree) (t : Tree) → AreTypedTrees C gives slots ts → IsTypedTree C gives slots t → AreTypedTrees C gives slots (ts ++ t ∷ [])
@@ -141,18 +146,22 @@ module _ (P : Checked) (C : Code) (gives : Option Ty) where
       let e : suc (length nodes) ≡ length nodes + 1 = omega arith in
       (n, subst (λ k. numbered C.nodes k ≡ Some n) e (g (length nodes) n (last_get nodes n [])))
 
+  -- one more tree, whose nodes are the next one and those behind it
+  pub adds_node : (ts : List Tree) (t : Tree) (nodes : List Node) (n : Node) (ks : List ℕ) (first last : ℕ) → IsCounted first (all_nodes ts) (length nodes) → nodes_in t ≡ (length nodes + 1) ∷ ks → IsCounted (length (nodes ++ n ∷ []) + 1) ks last → IsCounted first (all_nodes (ts ++ t ∷ [])) last
+  adds_node ts t nodes n ks first last h e k =
+      counted_by first last _ _ (all_next ts t ∙ ap (λ (xs : List ℕ). all_nodes ts ++ xs) e)
+      (counted_then first (length nodes) last (all_nodes ts) _ h (counted_first (length nodes) (length (nodes ++ n ∷ [])) last ks (length-append nodes (n ∷ [])) k))
+
   pub emits : (word : Word) (token : ℕ) (counter : Counter) (o : Draft) → ((slots : List Ty) → Grows o.slots slots → IsTypedWord C gives slots word) → Goes o (emitted P word token counter o)
   emits word token counter o h = record {
     slots = λ place x e. e;
     nodes = grows_append o.nodes (node_at P o.method token counter ∷ []);
     trees = λ slots g n k. trees_next slots o.trees _ k (typed.IsTypedTree.does (length o.nodes + 1) word refl (node_is o.nodes (node_at P o.method token counter) n) (h slots g));
+    order = λ first h. adds_node o.trees (Do (length o.nodes + 1) word) o.nodes (node_at P o.method token counter) [] first _ h (nodes_do (length o.nodes + 1) word) (counted_none _);
   }
 
-  pub nodes_go : (token : ℕ) (counter : Counter) (o : Draft) → Goes o (noded P token counter o)
-  nodes_go token counter o = record { slots = λ place x e. e; nodes = grows_append o.nodes (node_at P o.method token counter ∷ []); trees = λ slots g n k. k }
-
   pub temps_go : (t : Ty) (o : Draft) → Goes o (with_temp t o)
-  temps_go t o = record { slots = grows_append o.slots (t ∷ []); nodes = λ place x e. e; trees = λ slots g n k. k }
+  temps_go t o = record { slots = grows_append o.slots (t ∷ []); nodes = λ place x e. e; trees = λ slots g n k. k; order = λ first k. k }
 
   -- ---- values
 

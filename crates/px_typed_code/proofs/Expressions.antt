@@ -1,5 +1,5 @@
 -- What an expression is lowered to is typed.
-use Rattle.std.proofs.Common.{◌≡◌, ℕ, suc, ◌+◌, Bool, true, false, List, [], ◌∷◌, ◌++◌, append_assoc, length, length-append, map, Option, Some, None, option_map, slice_get, slice_index_or, refl, sym, ap, ◌∙◌, subst}
+use Rattle.std.proofs.Common.{◌≡◌, ℕ, suc, ◌+◌, Bool, true, false, List, [], ◌∷◌, ◌++◌, append_assoc, length, length-append, map, Option, Some, None, option_map, slice_get, slice_index_or, refl, sym, ap, ◌∙◌, subst, append-nil}
 use Rattle.px_value.specs.declared.value.Value.{Value}
 use Rattle.px_value.specs.declared.value.Value.TheVariants as value
 use Rattle.px_value.specs.declared.op.Op.{Op}
@@ -49,8 +49,10 @@ use Rattle.px_lowering.specs.Allocations.{kind_of}
 use Rattle.px_typed_code.specs.Laws.{site_of}
 use Rattle.px_typed_code.specs.Uses as uses
 use Rattle.px_typed_code.specs.Uses.{is_value, is_choice, joins, IsPart, IsUsed}
+use Rattle.px_typed_code.specs.Nodes.{nodes_in, all_nodes}
+use Rattle.px_typed_code.proofs.Counted.{counted_none, nodes_if}
 use Rattle.px_typed_code.proofs.Operators.{IsPlain, GivesCode, gives_code, prefix_joins_none, SignIs, sign_is, never}
-use Rattle.px_typed_code.proofs.Drafts.{Grows, grows_append, OperandFits, has_ty, ty_more, operand_more, StepFits, HadFits, Goes, goes_none, goes_then, trees_next, node_is, Fine, FineOperand, operated_fine, temped_fine, slotted_goes, fitted_fine, unknown_fine}
+use Rattle.px_typed_code.proofs.Drafts.{Grows, grows_append, OperandFits, has_ty, ty_more, operand_more, StepFits, HadFits, Goes, goes_none, goes_then, trees_next, node_is, adds_node, Fine, FineOperand, operated_fine, temped_fine, slotted_goes, fitted_fine, unknown_fine}
 use Rattle.px_typed_code.proofs.Around.{IsCodeOf, query_is, value_plain, element_plain, element_is, ArgsFit, args_more, args_first, args_count, args_sent, sendable_value, result_null, result_some, result_none}
 
 module _ (P : Checked) (C : Code) (gives : Option Ty) (code : IsCodeOf P.facts C) (locals : List Static) (values : (place : ℕ) (t : Static) → slice_get locals place ≡ Some t → is_value t ≡ true) where
@@ -174,6 +176,10 @@ module _ (P : Checked) (C : Code) (gives : Option Ty) (code : IsCodeOf P.facts C
   choice_typed true slots node temp ts n h k = typed.IsTypedTree.branches node (Slot temp) ts [] refl n h k typed.AreTypedTrees.none
   choice_typed false slots node temp ts n h k = typed.IsTypedTree.branches node (Slot temp) [] ts refl n h typed.AreTypedTrees.none k
 
+  choice_nodes : (both : Bool) (node temp : ℕ) (ts : List Tree) → nodes_in (choice both node temp ts) ≡ node ∷ all_nodes ts
+  choice_nodes true node temp ts = nodes_if node (Slot temp) ts [] ∙ ap (λ (ks : List ℕ). node ∷ ks) (append-nil (all_nodes ts))
+  choice_nodes false node temp ts = nodes_if node (Slot temp) [] ts
+
   choice_means : (both : Bool) (y z : Expr) (t : Static) (id token : ℕ) → t ≡ static.Boolean → Means static.Boolean (says y) → Means static.Boolean (says z) → Means t (choice_low P both (part_of P y) (part_of P z) id token)
   choice_means both y z t id token q m k d s =
       let x = says y d in
@@ -194,6 +200,7 @@ module _ (P : Checked) (C : Code) (gives : Option Ty) (code : IsCodeOf P.facts C
         slots = g3.slots;
         nodes = λ place e w. g3.nodes place e (grows_append o1.nodes (n ∷ []) place e w);
         trees = λ slots w nodes ts. trees_next P C gives slots o1.trees _ ts (choice_typed both slots (length o1.nodes + 1) a.temp b.trees (node_is P C gives o1.nodes n (λ place e u. nodes place e (g3.nodes place e u))) (w a.temp ty.Bool (g3.slots a.temp ty.Bool fine_temp.temp)) (g3.trees slots w nodes typed.AreTypedTrees.none));
+        order = λ first c. adds_node P C gives o1.trees (choice both (length o1.nodes + 1) a.temp b.trees) o1.nodes n (all_nodes b.trees) first (length b.nodes) c (choice_nodes both (length o1.nodes + 1) a.temp b.trees) (g3.order (length o3.nodes + 1) (counted_none (length o3.nodes)));
       } in
       record { goes = goes_then P C gives d o1 _ g1 whole; had = (q, g3.slots a.temp ty.Bool fine_temp.temp) }
 

@@ -1,4 +1,5 @@
 pub mod Operators
+pub mod Counted
 pub mod Drafts
 pub mod Around
 pub mod Expressions

@@ -1,5 +1,5 @@
 -- What a statement is lowered to is typed, and doesn't run past its end where the statement can't complete normally.
-use Rattle.std.proofs.Common.{◌≡◌, ℕ, suc, ◌+◌, Bool, true, false, ◌||◌, List, [], ◌∷◌, length, map, Option, Some, None, slice_get, refl, sym, ap, ◌∙◌, subst}
+use Rattle.std.proofs.Common.{◌++◌, ◌≡◌, ℕ, suc, ◌+◌, Bool, true, false, ◌||◌, List, [], ◌∷◌, length, map, Option, Some, None, slice_get, refl, sym, ap, ◌∙◌, subst, length-append}
 use Rattle.px_value.specs.declared.op.Op.{Op}
 use Rattle.px_value.specs.declared.op.Op.TheVariants as op
 use Rattle.px_tree.specs.declared.Expr.{Expr}
@@ -29,6 +29,7 @@ use Rattle.px_normal.specs.declared.word.Operand.TheVariants.{Slot, Literal}
 use Rattle.px_normal.specs.declared.word.Word.TheVariants as w
 use Rattle.px_normal.specs.declared.node.Counter.{Counter}
 use Rattle.px_normal.specs.declared.node.Counter.TheVariants.{Begun, Completed}
+use Rattle.px_normal.specs.declared.method.Tree.TheVariants.{If, Loop}
 use Rattle.px_normal.specs.declared.code.Code.{Code}
 use Rattle.px_normal.specs.Typed as typed
 use Rattle.px_normal.specs.Typed.{IsNode, IsLiteral, HasSlot, HasTy, is_printed, IsTypedTree, AreTypedTrees, Stops}
@@ -43,8 +44,10 @@ use Rattle.px_lowering.specs.Statements.{whole, last_completes, completes_step, 
 use Rattle.px_lowering.proofs.StmtForms.{completes_block, completes_return, completes_if, low_block, low_empty, low_local, low_assign, low_compound, low_up, low_down, low_call, low_if, low_while, low_for, low_return, low_print}
 use Rattle.px_typed_code.specs.Uses as uses
 use Rattle.px_typed_code.specs.Uses.{is_value, is_result, joins, IsUsed, IsIn, IsInner, IsAskedOf, AreUsed}
+use Rattle.px_typed_code.specs.Nodes.{all_nodes}
+use Rattle.px_typed_code.proofs.Counted.{counted_then, counted_none, counted_first, counted_by, nodes_if, nodes_loop, all_next}
 use Rattle.px_typed_code.proofs.Operators.{IsPlain, GivesCode, gives_code, never, never_so}
-use Rattle.px_typed_code.proofs.Drafts.{grows_none, grows_append, OperandFits, has_ty, ty_more, HadFits, Goes, goes_none, goes_then, trees_next, node_is, emits, Fine, FineOperand, slotted_goes}
+use Rattle.px_typed_code.proofs.Drafts.{grows_none, grows_append, OperandFits, has_ty, ty_more, HadFits, Goes, goes_none, goes_then, trees_next, node_is, adds_node, emits, Fine, FineOperand, slotted_goes}
 use Rattle.px_typed_code.proofs.Around.{IsCodeOf, value_plain, element_plain, element_is, result_some}
 use Rattle.px_typed_code.proofs.Expressions as expressions
 
@@ -291,6 +294,8 @@ module _ (P : Checked) (C : Code) (code : IsCodeOf P.facts C) (locals : List Sta
           (ty_more o1.slots slots a.operand ty.Bool (λ place x e. ls place x (gn.slots place x (gy.slots place x e))) (has_ty o1.slots static.Boolean a.operand g.operand))
           (gy.trees slots (λ place x e. ls place x (gn.slots place x e)) (λ place x e. ns place x (gn.nodes place x e)) typed.AreTypedTrees.none)
           (gn.trees slots ls ns typed.AreTypedTrees.none));
+        order = λ first c. adds_node P C gives o1.trees (If (length o1.nodes + 1) a.operand y.trees n.trees) o1.nodes m (all_nodes y.trees ++ all_nodes n.trees) first (length n.nodes) c (nodes_if (length o1.nodes + 1) a.operand y.trees n.trees)
+          (counted_then (length o3.nodes + 1) (length y.nodes) (length n.nodes) (all_nodes y.trees) (all_nodes n.trees) (gy.order (length o3.nodes + 1) (counted_none (length o3.nodes))) (gn.order (length y.nodes + 1) (counted_none (length y.nodes))));
       } in
       then o o1 _ g.goes whole
 
@@ -324,6 +329,10 @@ module _ (P : Checked) (C : Code) (code : IsCodeOf P.facts C) (locals : List Sta
           (ty_more o1.slots slots a.operand ty.Bool (λ place x e. ls place x (gb.slots place x e)) (has_ty o1.slots static.Boolean a.operand g.operand))
           (g.goes.trees slots (λ place x e. ls place x (gb.slots place x e)) (λ place x e. ns place x (gb.nodes place x (grows_append o1.nodes (m ∷ []) place x e))) typed.AreTypedTrees.none)
           (gb.trees slots ls ns typed.AreTypedTrees.none));
+        order = λ first c. counted_by first (length b.nodes) _ _ (all_next o.trees (Loop o1.trees (length o1.nodes + 1) a.operand b.trees) ∙ ap (λ (ks : List ℕ). all_nodes o.trees ++ ks) (nodes_loop o1.trees (length o1.nodes + 1) a.operand b.trees))
+          (counted_then first (length o.nodes) (length b.nodes) (all_nodes o.trees) _ c
+            (counted_then (length o.nodes + 1) (length o1.nodes) (length b.nodes) (all_nodes o1.trees) _ (g.goes.order (length o.nodes + 1) (counted_none (length o.nodes)))
+              (counted_first (length o1.nodes) (length o3.nodes) (length b.nodes) (all_nodes b.trees) (length-append o1.nodes (m ∷ [])) (gb.order (length o3.nodes + 1) (counted_none (length o3.nodes))))));
       }
 
   -- ---- returns and prints
