@@ -1,11 +1,11 @@
 -- Lists of nodes that count up.
-use Rattle.std.proofs.Common.{◌≡◌, ℕ, zero, suc, ◌+◌, List, [], ◌∷◌, ◌++◌, append_assoc, append-nil, length, length-append, map, refl, sym, ap, ◌∙◌, subst, arith}
+use Rattle.std.proofs.Common.{◌≡◌, ℕ, zero, suc, ◌+◌, List, [], ◌∷◌, ◌++◌, append_assoc, append-nil, refl, sym, ap, ◌∙◌, subst, arith}
 use Rattle.px_normal.specs.declared.word.Operand.{Operand}
 use Rattle.px_normal.specs.declared.word.Word.{Word}
 use Rattle.px_normal.specs.declared.method.Tree.{Tree, Tree-F, fold-roll-Tree, roll-Tree, map-Tree}
 use Rattle.px_normal.specs.declared.method.Tree.TheVariants.{Do, If, Loop, rolls-Do, rolls-If, rolls-Loop}
 use Rattle.px_normal.specs.declared.method.Tree.TheOpen.{Tree-F as t}
-use Rattle.px_typed_code.specs.Nodes.{joined, nodes_step, nodes_in, all_nodes, count_up}
+use Rattle.px_typed_code.specs.Nodes.{nodes_step, nodes_in, all_nodes, count_up}
 
 -- ---- trees
 

@@ -8,3 +8,4 @@ pub mod Bodies
 pub mod Skeleton
 pub mod Members
 pub mod Programs
+pub mod Order

@@ -66,30 +66,30 @@ module _ (P : Checked) (source : IsTypedSource (source_from P)) (used : AreUsedW
   abbrev F : Facts
   F = P.facts
 
-  abbrev ms : List Method
+  abbrev pub ms : List Method
   ms = methods_of P.program.classes
 
-  abbrev made : Methods
+  abbrev pub made : Methods
   made = lowered_methods P 1 ms F.methods []
 
-  abbrev kinds : Classes
+  abbrev pub kinds : Classes
   kinds = lowered_classes P P.program.classes F.classes made.nodes
 
-  abbrev found : List Allocation
+  abbrev pub found : List Allocation
   found = allocations F 1 ms
 
-  abbrev places : Sites
+  abbrev pub places : Sites
   places = lowered_sites P found kinds.nodes []
 
   -- ---- methods that are known
 
   -- a tree and a fact of one number are typed
-  pair_typed : (place : ℕ) (m : Method) (fact : MethodFact) → slice_get ms place ≡ Some m → slice_get F.methods place ≡ Some fact → IsTypedSourceMethod F m fact
+  pub pair_typed : (place : ℕ) (m : Method) (fact : MethodFact) → slice_get ms place ≡ Some m → slice_get F.methods place ≡ Some fact → IsTypedSourceMethod F m fact
   pair_typed place m fact h k =
       let t = source.methods (suc place) fact k in
       subst (λ n. IsTypedSourceMethod F n fact) (some_is t.0 m (sym t.1 ∙ h)) t.2
 
-  fine : (C : Code) (code : IsCodeOf F C) (number place : ℕ) (m : Method) (fact : MethodFact) (h : slice_get ms place ≡ Some m) (k : slice_get F.methods place ≡ Some fact) (nodes : List Node) → IsFineBody P C code number m fact (pair_typed place m fact h k) (used.bodies (suc place) m fact h k) (λ slot t e. used.slots (suc place) slot fact t k e) (begun P number m fact nodes) (lowered_body P number m fact nodes)
+  pub fine : (C : Code) (code : IsCodeOf F C) (number place : ℕ) (m : Method) (fact : MethodFact) (h : slice_get ms place ≡ Some m) (k : slice_get F.methods place ≡ Some fact) (nodes : List Node) → IsFineBody P C code number m fact (pair_typed place m fact h k) (used.bodies (suc place) m fact h k) (λ slot t e. used.slots (suc place) slot fact t k e) (begun P number m fact nodes) (lowered_body P number m fact nodes)
   fine C code number place m fact h k nodes = body_fine P C code number m fact (pair_typed place m fact h k) (used.bodies (suc place) m fact h k) (λ slot t e. used.slots (suc place) slot fact t k e) nodes
 
   pub bodies_grow : BodiesGrow P 1 ms F.methods

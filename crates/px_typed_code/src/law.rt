@@ -1,5 +1,6 @@
 //! What holds of the code of typed programs.
 ghost use Rattle.px_typed_code.specs.Laws.{LoweredIsTyped, EntriesAreMethods};
+ghost use Rattle.px_typed_code.specs.Nodes.{NodesInOrder};
 
 /// The code of a typed program is typed.
 pub fn is_typed()
@@ -9,4 +10,9 @@ pub fn is_typed()
 /// Each entry of a program is a method that jobs may call, with its parameters and its result.
 pub fn entries_are_methods()
     ensures { EntriesAreMethods }
+{}
+
+/// The nodes are numbered from 1 in the order of the code.
+pub fn nodes_are_in_order()
+    ensures { NodesInOrder }
 {}
