@@ -9,3 +9,4 @@ pub mod Skeleton
 pub mod Members
 pub mod Programs
 pub mod Order
+pub mod Few
