@@ -1,0 +1,10 @@
+//! Code of the whole language, as two ends take it, where they do.
+#![tactic(auto)]
+
+mod later;
+mod methods;
+mod program;
+mod types;
+mod words;
+
+pub use program::straighten;
