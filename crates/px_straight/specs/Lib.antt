@@ -1,3 +1,4 @@
 pub mod Taken
 pub mod Simple
 pub mod Straight
+pub mod Laws

@@ -2,6 +2,7 @@
 #![tactic(auto)]
 
 mod later;
+pub mod law;
 mod methods;
 mod program;
 mod types;
