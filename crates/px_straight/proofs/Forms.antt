@@ -1,5 +1,5 @@
 -- What is later in each kind of tree, and what each is as two ends take it.
-use Rattle.std.proofs.Common.{◌≡◌, ℕ, Bool, true, false, List, Option, Some, None, unwrap_or, if◌then◌else◌, refl, sym, ap, ◌∙◌}
+use Rattle.std.proofs.Common.{◌≡◌, ℕ, Bool, true, false, List, Option, Some, None, unwrap_or, if◌then◌else◌, sym, ap, ◌∙◌}
 use Rattle.px_normal.specs.declared.word.Operand.{Operand}
 use Rattle.px_normal.specs.declared.word.Word.{Word}
 use Rattle.px_normal.specs.declared.method.Tree.{Tree, Tree-F, fold-roll-Tree, roll-Tree, map-Tree}
@@ -17,7 +17,7 @@ module _ (code : Code) where
   unfolding later_in
   at_later x = fold-roll-Tree (Option ℕ) (later_step code) x
 
-  later_do : (y : Tree) (node : ℕ) (word : Word) → y ≡ Do node word → later_in code y ≡ (if is_taken code.main word then None else Some (line_of code node))
+  pub later_do : (y : Tree) (node : ℕ) (word : Word) → y ≡ Do node word → later_in code y ≡ (if is_taken code.main word then None else Some (line_of code node))
   later_do y node word h = ap (later_in code) (h ∙ sym (rolls-Do node word)) ∙ at_later (t.Do node word)
 
   pub later_taken : (y : Tree) (node : ℕ) (word : Word) → y ≡ Do node word → is_taken code.main word ≡ true → later_in code y ≡ None

@@ -1,13 +1,11 @@
 -- Straight code, part by part.
-use Rattle.std.proofs.Common.{◌≡◌, ℕ, zero, suc, List, [], ◌∷◌, map, Option, Some, None, option_map, slice_get, Ok, Err, refl, sym, ap, ◌∙◌}
+use Rattle.std.proofs.Common.{◌≡◌, ℕ, zero, suc, List, ◌∷◌, map, Option, Some, None, option_map, Ok, refl, ap, ◌∙◌}
 use Rattle.std.proofs.lemmas.Option.{slice_get-map}
 use Rattle.px_normal.specs.declared.method.Method.{Method}
 use Rattle.px_normal.specs.declared.code.Code.{Code}
 use Rattle.px_normal.specs.First.{numbered}
-use Rattle.px_code.specs.declared.method.Method.{Method as SimpleMethod}
 use Rattle.px_code.specs.declared.code.Code.{Code as SimpleCode}
 use Rattle.px_code.specs.CodeRun.{method_at}
-use Rattle.px_code.specs.Points.{IsMethod}
 use Rattle.px_straight.specs.Taken.{later, first_of}
 use Rattle.px_straight.specs.Simple.{simple_code, simple_method}
 use Rattle.px_straight.specs.Straight.{unless_later, straight}

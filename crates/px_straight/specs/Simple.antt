@@ -1,5 +1,5 @@
 -- Code of the whole language as two ends take it: everything in its place, and by the same numbers.
-use Rattle.std.specs.Prelude.{ℕ, List, [], map, Option, None, option_map}
+use Rattle.std.specs.Prelude.{[], map, None, option_map}
 use Rattle.px_value.specs.declared.ty.Ty.{Ty as Outer}
 use Rattle.px_value.specs.declared.ty.Ty.TheVariants as outer
 use Rattle.px_normal.specs.declared.ty.Ty.{Ty}
