@@ -146,8 +146,17 @@ abbrev pub put_in_slot : ℕ → Option ℕ → Value → Control → Control
 put_in_slot f (Some n) v c = with_frames (filled c.frames f n v) c
 put_in_slot f None v c = c
 
+-- a cell is marked once
+abbrev pub with_mark_if : Bool → Cell → List Cell → List Cell
+with_mark_if true c marks = marks
+with_mark_if false c marks = marks ++ c ∷ []
+
+abbrev pub with_marks : List Cell → List Cell → List Cell
+with_marks [] marks = marks
+with_marks (c ∷ cs) marks = with_marks cs (with_mark_if (marked marks c.object c.index) c marks)
+
 abbrev pub also_marked : List Cell → Control → Control
-also_marked writes c = record c { marks = c.marks ++ writes }
+also_marked writes c = record c { marks = with_marks writes c.marks }
 
 -- the send behind a statement is done with it
 abbrev pub naming : SendKind → Value → List Naming
@@ -158,8 +167,27 @@ abbrev pub namings : Option Send → Slots → List Naming
 namings None slots = []
 namings (Some send) slots = naming send.kind (operand slots send.object)
 
+abbrev pub same_kind : SendKind → SendKind → Bool
+same_kind send.App send.App = true
+same_kind send.Db send.Db = true
+same_kind send.Native send.Native = true
+same_kind _ _ = false
+
+abbrev pub has_naming : List Naming → SendKind → ℕ → Bool
+has_naming [] kind o = false
+has_naming (n ∷ ns) kind o = (same_kind kind n.kind && same o n.object) || has_naming ns kind o
+
+-- an object is named once in each way
+abbrev pub with_name_if : Bool → Naming → List Naming → List Naming
+with_name_if true n ns = ns
+with_name_if false n ns = ns ++ n ∷ []
+
+abbrev pub with_names : List Naming → List Naming → List Naming
+with_names [] ns = ns
+with_names (n ∷ more) ns = with_names more (with_name_if (has_naming ns n.kind n.object) n ns)
+
 abbrev pub sent : Option Send → Control → Control
-sent send c = record c { named = c.named ++ namings send (values_of c) }
+sent send c = record c { named = with_names (namings send (values_of c)) c.named }
 
 -- ---- numbers by recursion, so that they compute
 
