@@ -1,5 +1,5 @@
 -- Theorems about straight code.
-use Rattle.std.specs.Prelude.{◌≡◌, ℕ, ◌<◌, ◌≤◌, ◌^◌, List, [], ◌∷◌, length, map, Some, is_some, Ok}
+use Rattle.std.specs.Prelude.{◌≡◌, ℕ, ◌<◌, ◌≤◌, ◌^◌, List, [], ◌∷◌, length, map, Some, is_some, option_map, Ok}
 use Rattle.px_value.specs.declared.value.Value.{Value}
 use Rattle.px_value.specs.declared.object.Object.{Object}
 use Rattle.px_value.specs.Heap.{cell_at, max_counted}
@@ -18,8 +18,10 @@ use Rattle.px_code.specs.CodeRun.{Ran as SimpleRan, Traced as SimpleTraced}
 use Rattle.px_code.specs.Points.{IsMethod}
 use Rattle.px_code.specs.Sound.{run_of}
 use Rattle.px_code.specs.WellFormed.{IsWellFormed}
+use Rattle.px_straight.specs.Taken.{line_of}
+use Rattle.px_straight.specs.Order.{all_judged, first_untaken}
 use Rattle.px_straight.specs.Simple.{simple_code, simple_method}
-use Rattle.px_straight.specs.Straight.{straight}
+use Rattle.px_straight.specs.Straight.{unless_later, straight}
 
 -- ---- runs
 
@@ -47,6 +49,12 @@ told_run heap world (Asks q g) = absurd q
 -- Straight code does what its code does: same value or throw, same heap, same statements, whatever stands in the heap and answers.
 abbrev pub StraightRunsAsCode : Type 0 → Type 0 → Type 0
 StraightRunsAsCode Q W = (code : Code) (simple : SimpleCode) → IsTyped code → straight code ≡ Ok simple → (ask : Ask Q W) (heap : List Object) (world : W) (method : ℕ) (args : List Value) → code_run code ask heap world method args ≡ told_run heap world (run_of simple heap method args)
+
+-- ---- the line of what isn't straight
+
+-- the line of the first of all statements, in the order of nodes, that isn't taken
+abbrev pub StraightOrLater : Type 0
+StraightOrLater = (code : Code) → straight code ≡ unless_later (option_map (line_of code) (first_untaken (all_judged code))) (simple_code code)
 
 -- ---- what two ends ask of code
 
