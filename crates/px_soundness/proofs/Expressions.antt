@@ -4,6 +4,7 @@ use Rattle.std.specs.Option.{option_map}
 use Rattle.std.specs.Prelude.{nat_eq, is_none}
 use Rattle.std.proofs.lemmas.Bool.{true≢false, eqb-true}
 use Rattle.std.proofs.lemmas.List.{length-map}
+use Rattle.px_value.specs.declared.op.Op.TheVariants as op
 use Rattle.px_value.specs.declared.statement.Statement.{Statement}
 use Rattle.px_value.specs.declared.statement.Statement.TheVariants as statement
 use Rattle.px_value.specs.declared.schema.Schema.{Schema}
@@ -47,12 +48,14 @@ use Rattle.px_rules.specs.declared.home.Home.{Home}
 use Rattle.px_rules.specs.declared.context.Context.{Context}
 use Rattle.px_sql.specs.Parameters as sql
 use Rattle.px_sql.specs.Reading.{statement_of}
-use Rattle.px_semantics.specs.Facts.{type_at, named_at, prefix_of}
+use Rattle.px_semantics.specs.Facts.{type_at, named_at, op_of, prefix_of}
 use Rattle.px_semantics.specs.Typing as t
 use Rattle.px_semantics.specs.Typing.{Fits, IsVariable, IsMember, IsLibrary, IsSendable, AreSendable, IsTypedExpr, IsReceiver, AreArguments}
+use Rattle.px_uses.specs.Uses.{joins, AsksRows, IsUsed}
+use Rattle.px_uses.proofs.Made.{method_asks, update_asks, library_asks, query_asks, AllUsed, used_number, used_text, used_truth, used_falsehood, used_null, used_this, used_name, used_group, used_field, used_index, used_call, used_new_object, used_new_array, used_prefix, used_binary}
 use Rattle.px_soundness.specs.Numbered.{IsExpr, AreExprs, IsElement, IsBinary, IsPrefix}
 use Rattle.px_soundness.proofs.Clean.{Clean, clean_left, clean_right, kept, not_broken, and_left, and_right, or_right, not_true, some_is}
-use Rattle.px_soundness.proofs.Operators.{fitting, prefix_stands, binary_stands}
+use Rattle.px_soundness.proofs.Operators.{fitting, int_of, prefix_stands, binary_stands, choice_type, joined_well}
 use Rattle.px_soundness.proofs.Standing.{Rest, IsFixed, add_one, rest_in_drop, fixed_at, object_at, array_at, query_at, update_at, regroup}
 use Rattle.px_soundness.proofs.Premises.{AllKnown, MethodStands, MembersStand, home as home_in, context as context_in, Sees, variable_fixed, field_fixed, method_fixed, selected, Callee, callee, invoked}
 
@@ -185,6 +188,7 @@ module _ (F : Facts) (slots : List Ty) (classes : Classes) (firsts : List ℕ) (
     pub same : k.own.fact.ty ≡ u.ty
     pub known : is_unknown u.ty ≡ false
     pub typed : IsTypedExpr F slots x
+    pub used : IsUsed F x
     pub rest : Rest F m more
 
   abbrev pub Holds : ℕ → Expr → ℕ → Type 0
@@ -200,37 +204,37 @@ module _ (F : Facts) (slots : List Ty) (classes : Classes) (firsts : List ℕ) (
   number_holds x digits long h neg l s sees more =
       by_form (x.id + 1) x more _ (number digits long x.token neg) _ (leaf (typed_only (literal_type long))) (typed_by_form C x neg l ∙ typed_number C x.form x.token neg l digits long h) (known_by_form H x s ∙ known_number H x.form s digits long h) (λ c r.
       let a = fixed_at F x.id (typed_only (literal_type long)) more nothing_fixed r in
-      record { type_is = a.type_is; same = refl; known = (literal_known long).1; typed = IsTypedExpr.number x digits long h (a.type_is ∙ (literal_known long).0); rest = a.next })
+      record { type_is = a.type_is; same = refl; known = (literal_known long).1; typed = IsTypedExpr.number x digits long h (a.type_is ∙ (literal_known long).0); used = used_number F x digits long h; rest = a.next })
 
   text_holds : (x : Expr) (bytes : List ℕ) → x.form ≡ e.Str bytes → Holds x.id x (x.id + 1)
   text_holds x bytes h neg l s sees more =
       by_form (x.id + 1) x more _ (text bytes x.token) _ (text_known bytes) (typed_by_form C x neg l ∙ typed_text C x.form x.token neg l bytes h) (known_by_form H x s ∙ known_text H x.form s bytes h) (λ c r.
       let a = fixed_at F x.id (typed_only ty.Text) more nothing_fixed r in
-      record { type_is = a.type_is; same = refl; known = refl; typed = IsTypedExpr.text x bytes h a.type_is; rest = a.next })
+      record { type_is = a.type_is; same = refl; known = refl; typed = IsTypedExpr.text x bytes h a.type_is; used = used_text F x bytes h; rest = a.next })
 
   truth_holds : (x : Expr) → x.form ≡ e.True → Holds x.id x (x.id + 1)
   truth_holds x h neg l s sees more =
       by_form (x.id + 1) x more _ (of_type ty.Boolean) _ (leaf (typed_only ty.Boolean)) (typed_by_form C x neg l ∙ typed_true C x.form x.token neg l h) (known_by_form H x s ∙ known_true H x.form s h) (λ c r.
       let a = fixed_at F x.id (typed_only ty.Boolean) more nothing_fixed r in
-      record { type_is = a.type_is; same = refl; known = refl; typed = IsTypedExpr.truth x h a.type_is; rest = a.next })
+      record { type_is = a.type_is; same = refl; known = refl; typed = IsTypedExpr.truth x h a.type_is; used = used_truth F x h; rest = a.next })
 
   falsehood_holds : (x : Expr) → x.form ≡ e.False → Holds x.id x (x.id + 1)
   falsehood_holds x h neg l s sees more =
       by_form (x.id + 1) x more _ (of_type ty.Boolean) _ (leaf (typed_only ty.Boolean)) (typed_by_form C x neg l ∙ typed_false C x.form x.token neg l h) (known_by_form H x s ∙ known_false H x.form s h) (λ c r.
       let a = fixed_at F x.id (typed_only ty.Boolean) more nothing_fixed r in
-      record { type_is = a.type_is; same = refl; known = refl; typed = IsTypedExpr.falsehood x h a.type_is; rest = a.next })
+      record { type_is = a.type_is; same = refl; known = refl; typed = IsTypedExpr.falsehood x h a.type_is; used = used_falsehood F x h; rest = a.next })
 
   null_holds : (x : Expr) → x.form ≡ e.Null → Holds x.id x (x.id + 1)
   null_holds x h neg l s sees more =
       by_form (x.id + 1) x more _ (of_type ty.Null) _ (leaf (typed_only ty.Null)) (typed_by_form C x neg l ∙ typed_null C x.form x.token neg l h) (known_by_form H x s ∙ known_null H x.form s h) (λ c r.
       let a = fixed_at F x.id (typed_only ty.Null) more nothing_fixed r in
-      record { type_is = a.type_is; same = refl; known = refl; typed = IsTypedExpr.null x h a.type_is; rest = a.next })
+      record { type_is = a.type_is; same = refl; known = refl; typed = IsTypedExpr.null x h a.type_is; used = used_null F x h; rest = a.next })
 
   this_holds : (x : Expr) → x.form ≡ e.This → Holds x.id x (x.id + 1)
   this_holds x h neg l s sees more =
       by_form (x.id + 1) x more _ (of_type (ty.Object this)) _ (leaf (typed_only (ty.Object this))) (typed_by_form C x neg l ∙ typed_this C x.form x.token neg l h) (known_by_form H x s ∙ known_this H x.form s h) (λ c r.
       let a = fixed_at F x.id (typed_only (ty.Object this)) more nothing_fixed r in
-      record { type_is = a.type_is; same = refl; known = refl; typed = IsTypedExpr.this x h (sees.this_is ∙ ap Some (sym a.type_is)); rest = a.next })
+      record { type_is = a.type_is; same = refl; known = refl; typed = IsTypedExpr.this x h (sees.this_is ∙ ap Some (sym a.type_is)); used = used_this F x h; rest = a.next })
 
   variable_found : (x : Expr) (name : Name) (found : Option Ty) (l : Locals) (s : Scope) (more : List Node) → x.form ≡ e.Name name → Sight l s → variable_type C l name.bytes ≡ found → Clean (variable name found).notes → Rest F x.id (fact_only (variable_fact H s name.bytes) ∷ more) → Good (x.id + 1) x more (variable name found) (name_known (variable_fact H s name.bytes) name.bytes)
   variable_found x name None l s more h sees f c r = absurd c
@@ -242,6 +246,7 @@ module _ (F : Facts) (slots : List Ty) (classes : Classes) (firsts : List ℕ) (
         same = v.type_is;
         known = v.known;
         typed = IsTypedExpr.variable x name h (subst (λ (n : Named). IsVariable F slots n (type_at F x.id)) (sym a.named_is) (subst (λ (w : Ty). IsVariable F slots (variable_fact H s name.bytes).named w) (sym (a.type_is ∙ v.type_is)) v.variable));
+        used = used_name F x name h;
         rest = a.next;
       }
 
@@ -256,7 +261,7 @@ module _ (F : Facts) (slots : List Ty) (classes : Classes) (firsts : List ℕ) (
       by_form m x more _ (bracketed (typed C inner false l)) _ (group_known K) (typed_by_form C x neg l ∙ typed_group C x.form x.token neg l inner inner h refl) (known_by_form H x s ∙ known_group H x.form s inner inner h refl) (λ c r.
       let a = fixed_at F x.id (typed_only K.own.fact.ty) (all_nodes K ++ more) nothing_fixed r in
       let g = hold false l s sees more c a.next in
-      record { type_is = a.type_is ∙ g.same; same = g.same; known = g.known; typed = IsTypedExpr.group x inner h (g.type_is ∙ sym (a.type_is ∙ g.same)) g.typed; rest = g.rest })
+      record { type_is = a.type_is ∙ g.same; same = g.same; known = g.known; typed = IsTypedExpr.group x inner h (g.type_is ∙ sym (a.type_is ∙ g.same)) g.typed; used = used_group F x inner h g.used; rest = g.rest })
 
   -- ---- fields and elements
 
@@ -274,6 +279,7 @@ module _ (F : Facts) (slots : List Ty) (classes : Classes) (firsts : List ℕ) (
         same = same;
         known = subst (λ (z : Ty). is_unknown z ≡ false) (sym v.found_is) v.known;
         typed = IsTypedExpr.field x of name h (same_member F _ _ _ _ _ _ (a.named_is ∙ ap (λ (z : Ty). field_at z (field_place z name.bytes classes)) g.same) g.type_is (a.type_is ∙ same ∙ v.found_is) v.named) g.typed;
+        used = used_field F x of name h g.used;
         rest = g.rest;
       })
 
@@ -295,6 +301,7 @@ module _ (F : Facts) (slots : List Ty) (classes : Classes) (firsts : List ℕ) (
         same = ap indexed g.same;
         known = subst (λ (z : Ty). is_unknown z ≡ false) (sym is) (element_known arr.of);
         typed = IsTypedExpr.indexed x of at arr.of h (g.type_is ∙ arr.is) (sym (a.type_is ∙ ap indexed g.same ∙ is)) g.typed i.typed;
+        used = used_index F x of at h (i.type_is ∙ int_of U.ty i.known (and_right (is_unknown T.ty || is_array T.ty) (fits ty.Int U.ty) fit)) g.used i.used;
         rest = i.rest;
       })
 
@@ -304,7 +311,7 @@ module _ (F : Facts) (slots : List Ty) (classes : Classes) (firsts : List ℕ) (
   object_found x name None more h c r = absurd c
   object_found x name (Some class) more h c r =
       let a = object_at F x.id class 0 (ty.Object class) more r in
-      record { type_is = a.type_is; same = refl; known = refl; typed = IsTypedExpr.new_object x name class a.site h a.named_is a.type_is; rest = a.next }
+      record { type_is = a.type_is; same = refl; known = refl; typed = IsTypedExpr.new_object x name class a.site h a.named_is a.type_is; used = used_new_object F x name h; rest = a.next }
 
   object_holds : (x : Expr) (name : Name) → x.form ≡ e.NewObject name → Holds x.id x (x.id + 1)
   object_holds x name h neg l s sees more =
@@ -325,6 +332,7 @@ module _ (F : Facts) (slots : List Ty) (classes : Classes) (firsts : List ℕ) (
         same = refl;
         known = ap is_unknown arr.is;
         typed = IsTypedExpr.new_array x size b a.site arr.of h a.named_is (a.type_is ∙ arr.is) g.typed;
+        used = used_new_array F x b size h (g.type_is ∙ int_of T.ty g.known (kept (fits ty.Int T.ty) x.token 6 (clean_right T.notes _ (clean_right (names_no_class classes.numbers b) _ c)))) g.used;
         rest = g.rest;
       })
 
@@ -344,6 +352,7 @@ module _ (F : Facts) (slots : List Ty) (classes : Classes) (firsts : List ℕ) (
         same = same;
         known = p.1;
         typed = IsTypedExpr.prefix x y sign h (subst (λ (z : Ty). t.PrefixGives (prefix_of sign z) z (type_at F x.id)) (sym g.type_is) (subst (λ (z : Ty). t.PrefixGives (prefix_of sign T.ty) T.ty z) (sym (a.type_is ∙ same)) p.0)) g.typed;
+        used = used_prefix F x sign y h g.used;
         rest = g.rest;
       })
 
@@ -360,7 +369,8 @@ module _ (F : Facts) (slots : List Ty) (classes : Classes) (firsts : List ℕ) (
       let c' = clean_right T.notes _ c in
       let two = hold' false l s sees more (clean_left U.notes _ c') one.rest in
       let c'' = clean_right U.notes _ c' in
-      let p = binary_stands sign T.ty U.ty i one.known two.known (kept (operands_fit g T.ty U.ty) x.token 6 (clean_left (misfit (operands_fit g T.ty U.ty) x.token) _ c'')) (not_broken (compares_texts g T.ty U.ty) at 7 (clean_right (misfit (operands_fit g T.ty U.ty) x.token) _ c'')) in
+      let fit = kept (operands_fit g T.ty U.ty) x.token 6 (clean_left (misfit (operands_fit g T.ty U.ty) x.token) _ c'') in
+      let p = binary_stands sign T.ty U.ty i one.known two.known fit (not_broken (compares_texts g T.ty U.ty) at 7 (clean_right (misfit (operands_fit g T.ty U.ty) x.token) _ c'')) in
       let same : group_type g K.own.fact.ty J.own.fact.ty ≡ group_type g T.ty U.ty = ap (λ (w : Ty). group_type g w J.own.fact.ty) one.same ∙ ap (λ (w : Ty). group_type g T.ty w) two.same in
       record {
         type_is = a.type_is ∙ same;
@@ -369,6 +379,9 @@ module _ (F : Facts) (slots : List Ty) (classes : Classes) (firsts : List ℕ) (
         typed = IsTypedExpr.binary x y z sign at h
             (subst (λ (w : Ty). t.BinaryGives sign w (type_at F z.id) (type_at F x.id)) (sym one.type_is) (subst (λ (w : Ty). t.BinaryGives sign T.ty w (type_at F x.id)) (sym two.type_is) (subst (λ (w : Ty). t.BinaryGives sign T.ty U.ty w) (sym (a.type_is ∙ same)) p.0)))
             one.typed two.typed;
+        used = used_binary F x sign at y z h (λ e. a.type_is ∙ same ∙ choice_type sign T.ty U.ty e)
+            (subst (λ (w : Ty). op_of sign w (type_at F z.id) ≡ op.Concat → joins w (type_at F z.id) ≡ true) (sym one.type_is) (subst (λ (w : Ty). op_of sign T.ty w ≡ op.Concat → joins T.ty w ≡ true) (sym two.type_is) (joined_well sign T.ty U.ty one.known two.known fit)))
+            one.used two.used;
         rest = two.rest;
       })
 
@@ -383,11 +396,16 @@ module _ (F : Facts) (slots : List Ty) (classes : Classes) (firsts : List ℕ) (
   AllFit l (u ∷ us) (x ∷ xs) = (fits u (typed C x false l).ty ≡ true) × AllFit l us xs
   AllFit l _ _ = ⊥
 
+  record GoodAll (m : ℕ) (us : List Ty) (xs : List Expr) (more : List Node) : Type 0 where
+    typed : AreArguments F slots us xs
+    used : AllUsed F xs
+    rest : Rest F m more
+
   abbrev HoldAll : ℕ → List Expr → ℕ → Type 0
-  HoldAll n xs m = (l : Locals) (s : Scope) → Sight l s → (us : List Ty) → AllKnown us → AllClean l xs → AllFit l us xs → (more : List Node) → Rest F n (argument_nodes s (map (known H) xs) ++ more) → AreArguments F slots us xs × Rest F m more
+  HoldAll n xs m = (l : Locals) (s : Scope) → Sight l s → (us : List Ty) → AllKnown us → AllClean l xs → AllFit l us xs → (more : List Node) → Rest F n (argument_nodes s (map (known H) xs) ++ more) → GoodAll m us xs more
 
   none_hold : (n : ℕ) → HoldAll n [] n
-  none_hold n l s sees [] k c f more r = (AreArguments.none, r)
+  none_hold n l s sees [] k c f more r = record { typed = AreArguments.none; used = tt; rest = r }
   none_hold n l s sees (u ∷ us) k c f more r = absurd f
 
   more_hold : (n k m : ℕ) (x : Expr) (xs : List Expr) → Holds n x k → HoldAll k xs m → HoldAll n (x ∷ xs) m
@@ -395,7 +413,7 @@ module _ (F : Facts) (slots : List Ty) (classes : Classes) (firsts : List ℕ) (
   more_hold n k m x xs hold all l s sees (u ∷ us) w c f more r =
       let g = hold false l s sees (argument_nodes s (map (known H) xs) ++ more) c.0 (regroup F n (all_nodes (known H x s)) (argument_nodes s (map (known H) xs)) more r) in
       let rest = all l s sees us w.1 c.1 f.1 more g.rest in
-      (AreArguments.more u us x xs (subst (λ (z : Ty). Fits z u) (sym g.type_is) (fitting u (typed C x false l).ty w.0 g.known f.0)) g.typed rest.0, rest.1)
+      record { typed = AreArguments.more u us x xs (subst (λ (z : Ty). Fits z u) (sym g.type_is) (fitting u (typed C x false l).ty w.0 g.known f.0)) g.typed rest.typed; used = (g.used, rest.used); rest = rest.rest }
 
   clean_arguments : (token : ℕ) (wants : List Ty) (place : ℕ) (l : Locals) (xs : List Expr) → Clean (arguments token wants place l (map (typed C) xs)) → AllClean l xs
   clean_arguments token wants place l [] c = tt
@@ -451,24 +469,38 @@ module _ (F : Facts) (slots : List Ty) (classes : Classes) (firsts : List ℕ) (
       let p = method_arguments x.token i.m found l args i.found_is i.counted (clean_right (method_notes C u name (length js) found) _ c) in
       let q = all l s sees i.m.params st.known p.0 (p.1 st.known) more a.next in
       let same : result_of found ≡ i.m.result = ap result_of i.found_is in
+      let at : named_at F x.id ≡ named.Method (st.first + st.place) = a.named_is ∙ stands_at this name.bytes i.m st in
       record {
         type_is = a.type_is;
         same = refl;
         known = ap is_unknown same ∙ st.result_known;
-        typed = IsTypedExpr.call x None name args (st.first + st.place) st.fact h (a.named_is ∙ stands_at this name.bytes i.m st) st.fact_is (st.result_is ∙ sym (a.type_is ∙ same)) (IsReceiver.own (ty.Object st.fact.class) (sees.this_is ∙ ap (λ (k : ℕ). Some (ty.Object k)) (sym st.class_is))) (subst (λ (us : List Ty). AreArguments F slots us args) (sym st.params_are) q.0);
-        rest = q.1;
+        typed = IsTypedExpr.call x None name args (st.first + st.place) st.fact h at st.fact_is (st.result_is ∙ sym (a.type_is ∙ same)) (IsReceiver.own (ty.Object st.fact.class) (sees.this_is ∙ ap (λ (k : ℕ). Some (ty.Object k)) (sym st.class_is))) (subst (λ (us : List Ty). AreArguments F slots us args) (sym st.params_are) q.typed);
+        used = used_call F x None name args h (method_asks F (named_at F x.id) (st.first + st.place) at) q.used;
+        rest = q.rest;
       })
 
   -- the call of a callee that is found
+  record IsCalled (m : ℕ) (x : Expr) (args : List Expr) (mt : MethodType) (rest : List Node) : Type 0 where
+    known : is_unknown mt.result ≡ false
+    typed : IsTypedExpr F slots x
+    asks : AsksRows F (named_at F x.id)
+    all : GoodAll m mt.params args rest
+
   called_on : (m : ℕ) (x of : Expr) (name : Name) (args : List Expr) (u : Ty) (mt : MethodType) (rest : List Node) → x.form ≡ e.Call (Some of) name args → type_at F of.id ≡ u → IsTypedExpr F slots of → named_at F x.id ≡ method_at H u (method_place u name.bytes classes) → type_at F x.id ≡ mt.result
-      → Callee F slots classes firsts this result members u name.bytes mt → (AllKnown mt.params → AreArguments F slots mt.params args × Rest F m rest) → ((is_unknown mt.result ≡ false) × IsTypedExpr F slots x) × Rest F m rest
+      → Callee F slots classes firsts this result members u name.bytes mt → (AllKnown mt.params → GoodAll m mt.params args rest) → IsCalled m x args mt rest
   called_on m x of name args u mt rest h f g n k (Callee.method class e st) all =
       let q = all st.known in
       let at : named_at F x.id ≡ named.Method (st.first + st.place) = n ∙ ap (λ (z : Ty). method_at H z (method_place z name.bytes classes)) e ∙ stands_at class name.bytes mt st in
-      ((st.result_known, IsTypedExpr.call x (Some of) name args (st.first + st.place) st.fact h at st.fact_is (st.result_is ∙ sym k) (IsReceiver.of (ty.Object st.fact.class) of (f ∙ e ∙ ap ty.Object (sym st.class_is)) g) (subst (λ (us : List Ty). AreArguments F slots us args) (sym st.params_are) q.0)), q.1)
+      record {
+        known = st.result_known;
+        typed = IsTypedExpr.call x (Some of) name args (st.first + st.place) st.fact h at st.fact_is (st.result_is ∙ sym k) (IsReceiver.of (ty.Object st.fact.class) of (f ∙ e ∙ ap ty.Object (sym st.class_is)) g) (subst (λ (us : List Ty). AreArguments F slots us args) (sym st.params_are) q.typed);
+        asks = method_asks F (named_at F x.id) (st.first + st.place) at;
+        all = q;
+      }
   called_on m x of name args u mt rest h f g n k (Callee.library lib known result_known) all =
       let q = all known in
-      ((result_known, IsTypedExpr.library x of name args mt.params h (same_library _ _ _ _ _ _ mt.params n f k lib) g q.0), q.1)
+      let own = same_library _ _ _ _ _ _ mt.params n f k lib in
+      record { known = result_known; typed = IsTypedExpr.library x of name args mt.params h own g q.typed; asks = library_asks F (named_at F x.id) (type_at F of.id) (type_at F x.id) mt.params own; all = q }
 
   call_holds : (k m : ℕ) (x of : Expr) (name : Name) (args : List Expr) → x.form ≡ e.Call (Some of) name args → asked (written of) name.bytes ≡ None → Holds (x.id + 1) of k → HoldAll k args m → Holds x.id x m
   call_holds k m x of name args h free hold all neg l s sees more =
@@ -486,12 +518,12 @@ module _ (F : Facts) (slots : List Ty) (classes : Classes) (firsts : List ℕ) (
       let same : result_of (method_of K.own.fact.ty name.bytes classes) ≡ result_of found = ap (λ (z : Ty). result_of (method_of z name.bytes classes)) g.same in
       let is : result_of found ≡ i.m.result = ap result_of i.found_is in
       let q = called_on m x of name args T.ty i.m more h g.type_is g.typed (a.named_is ∙ ap (λ (z : Ty). method_at H z (method_place z name.bytes classes)) g.same) (a.type_is ∙ same ∙ is) (callee F slots classes firsts this result members T.ty name.bytes i.m i.found_is) (λ w. all l s sees i.m.params w p.0 (p.1 w) more g.rest) in
-      record { type_is = a.type_is ∙ same; same = same; known = ap is_unknown is ∙ q.0.0; typed = q.0.1; rest = q.1 })
+      record { type_is = a.type_is ∙ same; same = same; known = ap is_unknown is ∙ q.known; typed = q.typed; used = used_call F x (Some of) name args h q.asks (g.used, q.all.used); rest = q.all.rest })
 
   -- ---- how an expression is written
 
   data Kind (n m : ℕ) (x : Expr) : Type 0 where
-    bare : (name : Name) → m ≡ n + 1 → written x ≡ Bare name.bytes → Kind n m x
+    bare : (name : Name) → m ≡ n + 1 → written x ≡ Bare name.bytes → x.form ≡ e.Name name → Kind n m x
     literal : (bytes : List ℕ) (token : ℕ) → m ≡ n + 1 → written x ≡ Literal bytes token → x.form ≡ e.Str bytes → x.id ≡ n → Kind n m x
     other : written x ≡ Other → Kind n m x
 
@@ -509,7 +541,7 @@ module _ (F : Facts) (slots : List Ty) (classes : Classes) (firsts : List ℕ) (
   kind_of _ _ _ (IsExpr.falsehood x h) = as_other x.id (x.id + 1) x _ (typed_by_form C x false no_locals ∙ typed_false C x.form x.token false no_locals h) refl
   kind_of _ _ _ (IsExpr.null x h) = as_other x.id (x.id + 1) x _ (typed_by_form C x false no_locals ∙ typed_null C x.form x.token false no_locals h) refl
   kind_of _ _ _ (IsExpr.this x h) = as_other x.id (x.id + 1) x _ (typed_by_form C x false no_locals ∙ typed_this C x.form x.token false no_locals h) refl
-  kind_of _ _ _ (IsExpr.variable x name h) = Kind.bare name refl (sym (typed_written C x false no_locals) ∙ ap (λ (z : Typed). z.written) (typed_by_form C x false no_locals ∙ typed_name C x.form x.token false no_locals name h))
+  kind_of _ _ _ (IsExpr.variable x name h) = Kind.bare name refl (sym (typed_written C x false no_locals) ∙ ap (λ (z : Typed). z.written) (typed_by_form C x false no_locals ∙ typed_name C x.form x.token false no_locals name h)) h
   kind_of _ _ _ (IsExpr.group m x inner h d) = as_other x.id m x _ (typed_by_form C x false no_locals ∙ typed_group C x.form x.token false no_locals inner inner h refl) refl
   kind_of _ _ _ (IsExpr.field m x of name h d) = as_other x.id m x _ (typed_by_form C x false no_locals ∙ typed_field C x.form x.token false no_locals name of of h refl) refl
   kind_of _ _ _ (IsExpr.indexed k m x of at h d f) = as_other x.id m x _ (typed_by_form C x false no_locals ∙ typed_index C x.form x.token false no_locals of of at at h refl refl) refl
@@ -520,9 +552,14 @@ module _ (F : Facts) (slots : List Ty) (classes : Classes) (firsts : List ℕ) (
   kind_of _ _ _ (IsExpr.prefix m x sign y h i d) = as_other x.id m x _ (typed_by_form C x false no_locals ∙ typed_prefix C x.form x.token false no_locals sign y y h refl) refl
   kind_of _ _ _ (IsExpr.binary k m x sign at y z h i d f) = as_other x.id m x _ (typed_by_form C x false no_locals ∙ typed_binary C x.form x.token false no_locals sign at y y z z h refl refl) refl
 
-  -- `Db` has one number
+  -- `Db` has one number, and no parts
+  receiver_used : (n m : ℕ) (x : Expr) (name : List ℕ) (v : Verb) → Kind n m x → asked (written x) name ≡ Some v → IsUsed F x
+  receiver_used n m x name v (Kind.bare of h k i) q = used_name F x of i
+  receiver_used n m x name v (Kind.literal bytes token h k i j) q = used_text F x bytes i
+  receiver_used n m x name v (Kind.other k) q = absurd (cc (sym (ap (λ (z : Written). asked z name) k) ∙ q))
+
   receiver_end : (n m : ℕ) (x : Expr) (name : List ℕ) (v : Verb) → Kind n m x → asked (written x) name ≡ Some v → m ≡ n + 1
-  receiver_end n m x name v (Kind.bare of h k) q = h
+  receiver_end n m x name v (Kind.bare of h k i) q = h
   receiver_end n m x name v (Kind.literal bytes token h k i j) q = h
   receiver_end n m x name v (Kind.other k) q = absurd (cc (sym (ap (λ (z : Written). asked z name) k) ∙ q))
 
@@ -533,15 +570,16 @@ module _ (F : Facts) (slots : List Ty) (classes : Classes) (firsts : List ℕ) (
     same : (verb_fact v).ty ≡ verb_type v
     known : is_unknown (verb_type v) ≡ false
     typed : AreArguments F slots o.params args → IsTypedExpr F slots x
+    asks : AsksRows F (named_at F x.id)
     next : Rest F (x.id + 1) rest
 
   database_at : (v : Verb) (x : Expr) (of : Option Expr) (name : Name) (first : Expr) (args : List Expr) (o : Operation) (rest : List Node) → x.form ≡ e.Call of name (first ∷ args) → IsOperationOf v o → Rest F x.id (record { fact = verb_fact v; operation = Some o } ∷ rest) → IsDatabaseAt v x o args rest
   database_at verb.Query x of name first args o rest h is r =
       let a = query_at F x.id 0 0 ty.ResultSet o rest r in
-      record { type_is = a.type_is; same = refl; known = refl; typed = λ q. IsTypedExpr.query x of name first args a.number a.site o h a.named_is a.operation_is a.type_is is.sendable q; next = a.next }
+      record { type_is = a.type_is; same = refl; known = refl; typed = λ q. IsTypedExpr.query x of name first args a.number a.site o h a.named_is a.operation_is a.type_is is.sendable q; asks = query_asks F (named_at F x.id) a.number a.site o a.named_is a.operation_is (sym (same_select o.statement) ∙ is.fits); next = a.next }
   database_at verb.Update x of name first args o rest h is r =
       let a = update_at F x.id 0 ty.Int o rest r in
-      record { type_is = a.type_is; same = refl; known = refl; typed = λ q. IsTypedExpr.update x of name first args a.number o h a.named_is a.operation_is (no_select o.statement is.fits) a.type_is is.sendable q; next = a.next }
+      record { type_is = a.type_is; same = refl; known = refl; typed = λ q. IsTypedExpr.update x of name first args a.number o h a.named_is a.operation_is (no_select o.statement is.fits) a.type_is is.sendable q; asks = update_asks F (named_at F x.id) a.number a.named_is; next = a.next }
 
   -- the nodes behind that of the call: `Db`, the text, and the other arguments
   behind_text : (n k j : ℕ) (first : Expr) (bytes : List ℕ) (s : Scope) (ns more : List Node) → k ≡ n + 1 → j ≡ k + 1 → first.form ≡ e.Str bytes → Rest F n (fact_only database_fact ∷ ((all_nodes (known H first s) ++ ns) ++ more)) → Rest F j (ns ++ more)
@@ -555,9 +593,9 @@ module _ (F : Facts) (slots : List Ty) (classes : Classes) (firsts : List ℕ) (
   text_stands database token None us M f c = absurd c
   text_stands database token (Some o) us M f c = f o refl (kept (all_fit o.params us) database 13 c)
 
-  database_stands : (k j m : ℕ) (x of first : Expr) (name : Name) (args : List Expr) (v : Verb) (bytes : List ℕ) (token : ℕ) (l : Locals) (s : Scope) (more : List Node) → x.form ≡ e.Call (Some of) name (first ∷ args) → k ≡ (x.id + 1) + 1 → j ≡ k + 1 → written first ≡ Literal bytes token → first.form ≡ e.Str bytes → HoldAll j args m → Sight l s
+  database_stands : (k j m : ℕ) (x of first : Expr) (name : Name) (args : List Expr) (v : Verb) (bytes : List ℕ) (token : ℕ) (l : Locals) (s : Scope) (more : List Node) → x.form ≡ e.Call (Some of) name (first ∷ args) → k ≡ (x.id + 1) + 1 → j ≡ k + 1 → written first ≡ Literal bytes token → first.form ≡ e.Str bytes → IsUsed F of → HoldAll j args m → Sight l s
       → Clean (arguments x.token [] 0 l (map (typed C) args) ++ text_notes x.token first.token (asked_operation classes.library.schema v bytes) (types_of l (map (typed C) args))) → Rest F x.id (all_nodes (database_known H v (first ∷ args) s) ++ more) → Good m x more (database_call C x.token v (map (typed C) (first ∷ args)) l) (database_known H v (first ∷ args) s)
-  database_stands k j m x of first name args v bytes token l s more h ek ej w hf all sees c r =
+  database_stands k j m x of first name args v bytes token l s more h ek ej w hf db all sees c r =
       let us = types_of l (map (typed C) args) in
       let ns = argument_nodes s (map (known H) args) in
       let behind = fact_only database_fact ∷ ((all_nodes (known H first s) ++ ns) ++ more) in
@@ -566,7 +604,7 @@ module _ (F : Facts) (slots : List Ty) (classes : Classes) (firsts : List ℕ) (
       let a = database_at v x (Some of) name first args o behind h is (subst (λ (p : Option Operation). Rest F x.id (record { fact = verb_fact v; operation = p } ∷ behind)) (ap (operation_in classes.library.schema v) w ∙ f) r) in
       let counted = eqb-true (length o.params) (length us) (and_left (nat_eq (length o.params) (length us)) (each_fits o.params 0 us) fit) in
       let q = all l s sees o.params (sendable_known o.params is.sendable) (clean_arguments x.token [] 0 l args (clean_left (arguments x.token [] 0 l (map (typed C) args)) _ c)) (fit_parameters o.params o.params 0 l args refl counted (and_right (nat_eq (length o.params) (length us)) (each_fits o.params 0 us) fit)) more (behind_text (x.id + 1) k j first bytes s ns more ek ej hf a.next) in
-      record { type_is = a.type_is; same = a.same; known = a.known; typed = a.typed q.0; rest = q.1 })
+      record { type_is = a.type_is; same = a.same; known = a.known; typed = a.typed q.typed; used = used_call F x (Some of) name (first ∷ args) h a.asks (db, (used_text F first bytes hf, q.used)); rest = q.rest })
       (clean_right (arguments x.token [] 0 l (map (typed C) args)) _ c)
 
   data Split (k m : ℕ) : List Expr → Type 0 where
@@ -576,18 +614,18 @@ module _ (F : Facts) (slots : List Ty) (classes : Classes) (firsts : List ℕ) (
   no_literal : {M : Type 0} (x first : Expr) (args : List Expr) (v : Verb) (l : Locals) → literal_in (written first) ≡ None → Clean (database_notes classes.library.schema x.token v (map (typed C) (first ∷ args)) l) → M
   no_literal x first args v l h c = absurd (clean_right (arguments x.token [] 0 l (map (typed C) (first ∷ args))) _ (subst Clean (no_text C classes.library.schema x.token v first (map (typed C) args) l h) c))
 
-  database_good : (k m : ℕ) (x of : Expr) (name : Name) (args : List Expr) (v : Verb) (l : Locals) (s : Scope) (more : List Node) → x.form ≡ e.Call (Some of) name args → k ≡ (x.id + 1) + 1 → Split k m args → Sight l s
+  database_good : (k m : ℕ) (x of : Expr) (name : Name) (args : List Expr) (v : Verb) (l : Locals) (s : Scope) (more : List Node) → x.form ≡ e.Call (Some of) name args → k ≡ (x.id + 1) + 1 → IsUsed F of → Split k m args → Sight l s
       → Clean (database_notes classes.library.schema x.token v (map (typed C) args) l) → Rest F x.id (all_nodes (database_known H v args s) ++ more) → Good m x more (database_call C x.token v (map (typed C) args) l) (database_known H v args s)
-  database_good k m x of name _ v l s more h ek Split.bare_call sees c r = absurd c
-  database_good k m x of name _ v l s more h ek (Split.with_first j y ys (Kind.bare n e f) all) sees c r = no_literal x y ys v l (ap literal_in f) c
-  database_good k m x of name _ v l s more h ek (Split.with_first j y ys (Kind.other f) all) sees c r = no_literal x y ys v l (ap literal_in f) c
-  database_good k m x of name _ v l s more h ek (Split.with_first j y ys (Kind.literal bytes token e f g i) all) sees c r =
-      database_stands k j m x of y name ys v bytes token l s more h ek e f g all sees (subst Clean (text_is_read C classes.library.schema x.token v y (map (typed C) ys) l bytes (ap literal_in f)) c) r
+  database_good k m x of name _ v l s more h ek db Split.bare_call sees c r = absurd c
+  database_good k m x of name _ v l s more h ek db (Split.with_first j y ys (Kind.bare n e f g) all) sees c r = no_literal x y ys v l (ap literal_in f) c
+  database_good k m x of name _ v l s more h ek db (Split.with_first j y ys (Kind.other f) all) sees c r = no_literal x y ys v l (ap literal_in f) c
+  database_good k m x of name _ v l s more h ek db (Split.with_first j y ys (Kind.literal bytes token e f g i) all) sees c r =
+      database_stands k j m x of y name ys v bytes token l s more h ek e f g db all sees (subst Clean (text_is_read C classes.library.schema x.token v y (map (typed C) ys) l bytes (ap literal_in f)) c) r
 
   database_holds : (k m : ℕ) (x of : Expr) (name : Name) (args : List Expr) (v : Verb) → x.form ≡ e.Call (Some of) name args → asked (written of) name.bytes ≡ Some v → Kind (x.id + 1) k of → Split k m args → Holds x.id x m
   database_holds k m x of name args v h q d split neg l s sees more =
       by_form m x more _ (database_call C x.token v (map (typed C) args) l) _ (database_known H v args s) (typed_by_form C x neg l ∙ typed_database_call C x.form x.token neg l of of name args v h refl q) (known_by_form H x s ∙ known_database_call H x.form s of of name args v h refl q)
-      (λ c r. database_good k m x of name args v l s more h (receiver_end (x.id + 1) k of name.bytes v d q) split sees c r)
+      (λ c r. database_good k m x of name args v l s more h (receiver_end (x.id + 1) k of name.bytes v d q) (receiver_used (x.id + 1) k of name.bytes v d q) split sees c r)
 
   either_call : (k m : ℕ) (x of : Expr) (name : Name) (args : List Expr) (v : Option Verb) → x.form ≡ e.Call (Some of) name args → asked (written of) name.bytes ≡ v → Kind (x.id + 1) k of → Split k m args → Holds (x.id + 1) of k → HoldAll k args m → Holds x.id x m
   either_call k m x of name args None h q d split hold all = call_holds k m x of name args h q hold all

@@ -6,6 +6,7 @@ use Rattle.px_tree.specs.declared.Param.{Param}
 use Rattle.px_tree.specs.declared.Method.{Method}
 use Rattle.px_facts.specs.declared.types.Ty.{Ty}
 use Rattle.px_facts.specs.declared.types.Ty.TheVariants as ty
+use Rattle.px_facts.specs.declared.checked.MethodFact.{MethodFact}
 use Rattle.px_facts.specs.declared.checked.Facts.{Facts}
 use Rattle.px_facts.specs.Types.{is_unknown, is_void}
 use Rattle.px_rules.specs.declared.table.Table.{Table}
@@ -24,6 +25,7 @@ use Rattle.px_rules.specs.Methods.{result_notes, param_notes, params_of, judged_
 use Rattle.px_rules.specs.Bodies as bodies
 use Rattle.px_rules.specs.Bodies.{told_body, method_known}
 use Rattle.px_semantics.specs.Typing.{IsTypedMethod}
+use Rattle.px_uses.specs.Uses.{AreUsed}
 use Rattle.px_soundness.specs.Numbered.{IsStmt, AreParams, IsResult}
 use Rattle.px_soundness.proofs.Clean.{Clean, clean_left, clean_right, not_broken}
 use Rattle.px_soundness.proofs.Operators.{void_of}
@@ -31,6 +33,11 @@ use Rattle.px_soundness.proofs.Standing.{Rest}
 use Rattle.px_soundness.proofs.Premises.{AllKnown, MembersStand}
 use Rattle.px_soundness.proofs.Scopes.{get_seam, Matches, declared_matches}
 use Rattle.px_soundness.proofs.Statements.{type_known, grows, statement_done}
+
+-- a method is typed, and its parts are used as the rules say
+pub record IsJudged (F : Facts) (m : Method) (fact : MethodFact) : Type 0 where
+  pub typed : IsTypedMethod F m fact
+  pub used : AreUsed F fact.result m.body
 
 -- ---- signatures
 
@@ -74,7 +81,7 @@ module _ (F : Facts) (classes : Classes) (firsts : List ℕ) (members : MembersS
   must_be_void true completes h k = refl
   must_be_void false completes h k = absurd (true≢false (sym k ∙ h))
 
-  pub method_typed : (n k this : ℕ) (m : Method) → IsResult m.gives → AreParams m.params → IsStmt n m.body k → Clean (method_notes classes this m) → (more : List Node) → Rest F n ((told_body (home this) m).nodes ++ more) → IsTypedMethod F m (method_known (home this) m) × Rest F k more
+  pub method_typed : (n k this : ℕ) (m : Method) → IsResult m.gives → AreParams m.params → IsStmt n m.body k → Clean (method_notes classes this m) → (more : List Node) → Rest F n ((told_body (home this) m).nodes ++ more) → IsJudged F m (method_known (home this) m) × Rest F k more
   method_typed n k this m ir ip d c more r =
       let numbers = classes.numbers in
       let result = result_type numbers m.gives in
@@ -91,11 +98,14 @@ module _ (F : Facts) (classes : Classes) (firsts : List ℕ) (members : MembersS
       let match = params_match slots this result m.params ip no_locals (first_scope this) (record { names = refl; types = refl; counts = refl; stand = tt }) (clean_left (param_notes numbers no_locals m.params) _ c1) g.0 all in
       let done = statement_done F slots classes firsts this result members (ap (λ (us : List Ty). slice_get us 0) all) (result_known numbers m.gives ir (clean_left (result_notes numbers m.gives) _ c)) n k m.body d true (params_of numbers m.params) s (record { matches = match; usable = refl }) more (clean_left j.notes _ c2) ([], sym (append-nil slots)) r in (
         record {
-          locals = g.0;
-          slots = all;
-          completes = j.completes;
-          body = done.typed;
-          ends = λ e. void_of result (must_be_void (is_void result) j.completes (not_broken (not (is_void result) && j.completes) m.name.token 9 (clean_left (ends m result j.completes) _ c3)) e);
+          typed = record {
+            locals = g.0;
+            slots = all;
+            completes = j.completes;
+            body = done.typed;
+            ends = λ e. void_of result (must_be_void (is_void result) j.completes (not_broken (not (is_void result) && j.completes) m.name.token 9 (clean_left (ends m result j.completes) _ c3)) e);
+          };
+          used = done.used;
         },
         done.rest,
       )

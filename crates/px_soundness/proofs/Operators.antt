@@ -16,6 +16,7 @@ use Rattle.px_rules.specs.Operators.{promoted, both_promoted, prefix_fits, prefi
 use Rattle.px_semantics.specs.Facts.{op_of, prefix_of}
 use Rattle.px_semantics.specs.Typing.{Promotes, IsArithmetic, IsOfBits, IsShift, IsOrder, IsEquality, IsObject, AreCompared, GivesType, PrefixGives, BinaryGives, Fits}
 use Rattle.px_semantics.specs.Typing as t
+use Rattle.px_uses.specs.Uses.{is_joined, joins, is_choice}
 use Rattle.px_soundness.specs.Numbered.{IsPrefix, IsBinary}
 use Rattle.px_soundness.proofs.Clean.{and_left, and_right, or_right}
 
@@ -298,6 +299,21 @@ fitting ty.ResultSet (ty.Object b) k l h = absurd (true≢false (sym h))
 fitting ty.ResultSet (ty.Array b) k l h = absurd (true≢false (sym h))
 fitting ty.ResultSet ty.ResultSet k l h = t.Fits.same ty.ResultSet
 
+-- an int or a boolean, where one is wanted
+pub int_of : (from : Ty) → is_unknown from ≡ false → fits ty.Int from ≡ true → from ≡ ty.Int
+int_of from k h = exact from (fitting ty.Int from refl k h)
+  where
+    exact : (from : Ty) → Fits from ty.Int → from ≡ ty.Int
+    exact _ (t.Fits.same _) = refl
+    exact _ (t.Fits.null _ m) = absurd m
+
+pub truth_of : (from : Ty) → is_unknown from ≡ false → fits ty.Boolean from ≡ true → from ≡ ty.Boolean
+truth_of from k h = exact from (fitting ty.Boolean from refl k h)
+  where
+    exact : (from : Ty) → Fits from ty.Boolean → from ≡ ty.Boolean
+    exact _ (t.Fits.same _) = refl
+    exact _ (t.Fits.null _ m) = absurd m
+
 pub not_void : (to from : Ty) → fits to from ≡ true → is_void from ≡ false
 not_void to ty.Unknown h = refl
 not_void to ty.Void h = absurd (true≢false (sym h))
@@ -528,6 +544,97 @@ pub binary_stands : (s : Sign) (l r : Ty) → IsBinary s → is_unknown l ≡ fa
     → BinaryGives s l r (group_type (group_of s) l r) × (is_unknown (group_type (group_of s) l r) ≡ false)
 binary_stands s l r i k m h n = binary_fits s l r i (fit_of (group_of s) l r k m h) n
 
+-- ---- what is joined
+
+pub choice_type : (s : Sign) (l r : Ty) → is_choice s ≡ true → group_type (group_of s) l r ≡ ty.Boolean
+choice_type sign.Plus l r h = absurd (true≢false (sym h))
+choice_type sign.Minus l r h = absurd (true≢false (sym h))
+choice_type sign.Times l r h = absurd (true≢false (sym h))
+choice_type sign.Over l r h = absurd (true≢false (sym h))
+choice_type sign.Rest l r h = absurd (true≢false (sym h))
+choice_type sign.And l r h = absurd (true≢false (sym h))
+choice_type sign.Or l r h = absurd (true≢false (sym h))
+choice_type sign.Xor l r h = absurd (true≢false (sym h))
+choice_type sign.Shl l r h = absurd (true≢false (sym h))
+choice_type sign.Shr l r h = absurd (true≢false (sym h))
+choice_type sign.Ushr l r h = absurd (true≢false (sym h))
+choice_type sign.Less l r h = absurd (true≢false (sym h))
+choice_type sign.AtMost l r h = absurd (true≢false (sym h))
+choice_type sign.More l r h = absurd (true≢false (sym h))
+choice_type sign.AtLeast l r h = absurd (true≢false (sym h))
+choice_type sign.Equal l r h = absurd (true≢false (sym h))
+choice_type sign.Unequal l r h = absurd (true≢false (sym h))
+choice_type sign.Both l r h = refl
+choice_type sign.Either l r h = refl
+choice_type sign.Not l r h = absurd (true≢false (sym h))
+choice_type sign.Inv l r h = absurd (true≢false (sym h))
+choice_type sign.ToInt l r h = absurd (true≢false (sym h))
+choice_type sign.ToLong l r h = absurd (true≢false (sym h))
+
+only_plus : (s : Sign) (l r : Ty) → op_of s l r ≡ op.Concat → s ≡ sign.Plus
+only_plus sign.Plus l r h = refl
+only_plus sign.Minus l r h = absurd (cc h)
+only_plus sign.Times l r h = absurd (cc h)
+only_plus sign.Over l r h = absurd (cc h)
+only_plus sign.Rest l r h = absurd (cc h)
+only_plus sign.And l r h = absurd (cc h)
+only_plus sign.Or l r h = absurd (cc h)
+only_plus sign.Xor l r h = absurd (cc h)
+only_plus sign.Shl l r h = absurd (cc h)
+only_plus sign.Shr l r h = absurd (cc h)
+only_plus sign.Ushr l r h = absurd (cc h)
+only_plus sign.Less l r h = absurd (cc h)
+only_plus sign.AtMost l r h = absurd (cc h)
+only_plus sign.More l r h = absurd (cc h)
+only_plus sign.AtLeast l r h = absurd (cc h)
+only_plus sign.Equal l r h = absurd (cc h)
+only_plus sign.Unequal l r h = absurd (cc h)
+only_plus sign.Both l r h = absurd (cc h)
+only_plus sign.Either l r h = absurd (cc h)
+only_plus sign.Not l r h = absurd (cc h)
+only_plus sign.Inv l r h = absurd (cc h)
+only_plus sign.ToInt l r h = absurd (cc h)
+only_plus sign.ToLong l r h = absurd (cc h)
+
+or_true : (a : Bool) → (a || true) ≡ true
+or_true true = refl
+or_true false = refl
+
+and_both : (a b : Bool) → a ≡ true → b ≡ true → (a && b) ≡ true
+and_both true b h k = k
+and_both false b h k = absurd (true≢false (sym h))
+
+-- an operand that `+` takes
+added_joined : (x : Ty) → group_takes group.Add x ≡ true → is_joined x ≡ true
+added_joined ty.Null h = refl
+added_joined ty.Int h = refl
+added_joined ty.Long h = refl
+added_joined ty.Boolean h = refl
+added_joined ty.Text h = refl
+added_joined ty.Unknown h = refl
+added_joined ty.Void h = absurd (true≢false (sym h))
+added_joined (ty.Object c) h = absurd (true≢false (sym h))
+added_joined (ty.Array e) h = absurd (true≢false (sym h))
+added_joined ty.ResultSet h = absurd (true≢false (sym h))
+
+has_text : (l r : Ty) → Sum l r → op_of sign.Plus l r ≡ op.Concat → (is_text l || is_text r) ≡ true
+has_text _ _ (Sum.numbers _ _ IsNumber.int IsNumber.int) h = absurd (cc h)
+has_text _ _ (Sum.numbers _ _ IsNumber.int IsNumber.long) h = absurd (cc h)
+has_text _ _ (Sum.numbers _ _ IsNumber.long IsNumber.int) h = absurd (cc h)
+has_text _ _ (Sum.numbers _ _ IsNumber.long IsNumber.long) h = absurd (cc h)
+has_text _ _ (Sum.left r) h = refl
+has_text _ _ (Sum.right l) h = or_true (is_text l)
+
+sum_joined : (l r : Ty) → Fit group.Add l r → op_of sign.Plus l r ≡ op.Concat → joins l r ≡ true
+sum_joined l r f h =
+    and_both (is_text l || is_text r) (is_joined l && is_joined r) (has_text l r (by_sum l r (are_numbers l r) (is_text l) (is_text r) refl refl refl f.joined) h)
+    (and_both (is_joined l) (is_joined r) (added_joined l f.left) (added_joined r f.right))
+
+pub joined_well : (s : Sign) (l r : Ty) → is_unknown l ≡ false → is_unknown r ≡ false → operands_fit (group_of s) l r ≡ true → op_of s l r ≡ op.Concat → joins l r ≡ true
+joined_well s l r k m h e =
+    let is = only_plus s l r e in
+    sum_joined l r (fit_of group.Add l r k m (subst (λ (z : Sign). operands_fit (group_of z) l r ≡ true) is h)) (subst (λ (z : Sign). op_of z l r ≡ op.Concat) is e)
+
 -- ---- operators that assign
 
 pub record CompoundFit (g : Group) (to from : Ty) : Type 0 where
@@ -592,3 +699,15 @@ pub compound_stands : (s : Sign) (to from : Ty) → is_unknown to ≡ false → 
 compound_stands s to from k m h =
     let f = compound_fit (group_of s) to from k m h in
     subst (λ (z : Ty). GivesType (op_of s to z) to z to) f.same (with_itself s to f.takes)
+
+text_joined : (x : Ty) → IsNumber x ⊎ (x ≡ ty.Text) → op_of sign.Plus x x ≡ op.Concat → joins x x ≡ true
+text_joined _ (inl IsNumber.int) h = absurd (cc h)
+text_joined _ (inl IsNumber.long) h = absurd (cc h)
+text_joined x (inr e) h = ap (λ (z : Ty). joins z z) e
+
+pub compound_joined : (s : Sign) (to from : Ty) → is_unknown to ≡ false → is_unknown from ≡ false → compound_fits (group_of s) to from ≡ true → op_of s to from ≡ op.Concat → joins to from ≡ true
+compound_joined s to from k m h e =
+    let is = only_plus s to from e in
+    let f = compound_fit group.Add to from k m (subst (λ (z : Sign). compound_fits (group_of z) to from ≡ true) is h) in
+    let joined = subst (λ (z : Sign). op_of z to from ≡ op.Concat) is e in
+    subst (λ (z : Ty). joins to z ≡ true) f.same (text_joined to (or_text to (is_number to) refl f.takes) (subst (λ (z : Ty). op_of sign.Plus to z ≡ op.Concat) (sym f.same) joined))

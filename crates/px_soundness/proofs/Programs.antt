@@ -38,7 +38,7 @@ use Rattle.px_rules.specs.Bodies.{firsts_from, told_body, method_known, class_fo
 use Rattle.px_rules.specs.Entries.{value_type, gives_type, param_value, entry_of, entry_if, entries_from, first_method, main_from}
 use Rattle.px_semantics.specs.Facts.{by_number, fields_in}
 use Rattle.px_semantics.specs.Program.{methods_in, methods_of}
-use Rattle.px_semantics.specs.Typing.{IsTypedMethod, IsTypedEntry, inner_type, given_type}
+use Rattle.px_semantics.specs.Typing.{IsTypedEntry, inner_type, given_type}
 use Rattle.px_soundness.specs.Numbered.{AreMembers, AreClasses}
 use Rattle.px_soundness.proofs.Clean.{Clean, clean_left, clean_right, not_broken, and_left, and_right, some_is}
 use Rattle.px_soundness.proofs.Standing.{Rest, first_in_drop, rest_in_drop, add_one, regroup}
@@ -46,7 +46,7 @@ use Rattle.px_soundness.proofs.Premises.{AllKnown, FieldStands, MethodStands, Me
 use Rattle.px_rules.specs.Checked.{type_in, class_known}
 use Rattle.px_soundness.proofs.Scopes.{get_before, length_push, declare_fresh}
 use Rattle.px_soundness.proofs.Statements.{type_known}
-use Rattle.px_soundness.proofs.Methods.{result_known, params_known, method_typed}
+use Rattle.px_soundness.proofs.Methods.{IsJudged, result_known, params_known, method_typed}
 
 -- ---- numbers and lists
 
@@ -245,7 +245,7 @@ module _ (classes : Classes) (firsts : List ℕ) where
 
   abbrev pub AllTyped : Facts → List Method → List MethodFact → Type 0
   AllTyped F [] [] = Unit {0}
-  AllTyped F (m ∷ ms) (f ∷ fs) = IsTypedMethod F m f × AllTyped F ms fs
+  AllTyped F (m ∷ ms) (f ∷ fs) = IsJudged F m f × AllTyped F ms fs
   AllTyped F _ _ = ⊥
 
   typed_both : (F : Facts) (ms ns : List Method) (fs gs : List MethodFact) → AllTyped F ms fs → AllTyped F ns gs → AllTyped F (ms ++ ns) (fs ++ gs)
@@ -254,9 +254,9 @@ module _ (classes : Classes) (firsts : List ℕ) where
   typed_both F [] ns (f ∷ fs) gs h k = absurd h
   typed_both F (m ∷ ms) ns [] gs h k = absurd h
 
-  pub typed_at : (F : Facts) (ms : List Method) (fs : List MethodFact) (k : ℕ) (f : MethodFact) → AllTyped F ms fs → slice_get fs k ≡ Some f → (m : Method) × (slice_get ms k ≡ Some m) × IsTypedMethod F m f
+  pub typed_at : (F : Facts) (ms : List Method) (fs : List MethodFact) (k : ℕ) (f : MethodFact) → AllTyped F ms fs → slice_get fs k ≡ Some f → (m : Method) × (slice_get ms k ≡ Some m) × IsJudged F m f
   typed_at F [] [] k f h e = absurd (cc e)
-  typed_at F (m ∷ ms) (g ∷ fs) zero f h e = (m, refl, subst (λ (x : MethodFact). IsTypedMethod F m x) (some_is e) h.0)
+  typed_at F (m ∷ ms) (g ∷ fs) zero f h e = (m, refl, subst (λ (x : MethodFact). IsJudged F m x) (some_is e) h.0)
   typed_at F (m ∷ ms) (g ∷ fs) (suc k) f h e = typed_at F ms fs k f h.1 e
   typed_at F [] (g ∷ fs) k f h e = absurd h
   typed_at F (m ∷ ms) [] k f h e = absurd h

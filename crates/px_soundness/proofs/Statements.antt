@@ -1,6 +1,7 @@
 -- A statement in which no breach is noted is typed by its facts.
 use Rattle.std.proofs.Common.{◌≡◌, ◌≤◌, ℕ, ◌+◌, Bool, true, false, ◌||◌, List, [], ◌∷◌, ◌++◌, map, length, Option, Some, None, slice_get, if◌then◌else◌, refl, sym, ap, ◌∙◌, subst, arith, append_assoc, append-nil}
 use Rattle.std.proofs.lemmas.List.{length-take-le}
+use Rattle.px_value.specs.declared.op.Op.TheVariants as op
 use Rattle.px_tree.specs.declared.Name.{Name}
 use Rattle.px_tree.specs.declared.TypeName.{TypeName}
 use Rattle.px_tree.specs.declared.Base.{Base}
@@ -16,7 +17,7 @@ use Rattle.px_tree.specs.declared.StmtForm.TheVariants as st
 use Rattle.px_facts.specs.declared.types.Ty.{Ty}
 use Rattle.px_facts.specs.declared.types.Ty.TheVariants as ty
 use Rattle.px_facts.specs.declared.checked.Facts.{Facts}
-use Rattle.px_facts.specs.Types.{is_unknown, is_void, is_number, is_array, fits, array_of}
+use Rattle.px_facts.specs.Types.{is_unknown, is_void, is_number, is_array, is_printable, fits, array_of}
 use Rattle.px_rules.specs.declared.table.Table.{Table}
 use Rattle.px_rules.specs.declared.node.Node.{Node}
 use Rattle.px_rules.specs.declared.classes.Classes.{Classes}
@@ -43,9 +44,11 @@ use Rattle.px_rules.specs.declared.home.Home.{Home}
 use Rattle.px_rules.specs.declared.context.Context.{Context}
 use Rattle.px_semantics.specs.Facts.{type_at, op_of}
 use Rattle.px_semantics.specs.Typing.{Fits, Promotes, GivesType, IsTypedStmt, AreTypedStmts, WritesLocal}
+use Rattle.px_uses.specs.Uses.{joins, AreUsed}
+use Rattle.px_uses.proofs.Made.{AreAllUsed, used_block, used_empty, used_local, used_assign, used_compound, used_up, used_down, used_call_statement, used_if, used_while, used_for, used_leave, used_give, used_print}
 use Rattle.px_soundness.specs.Numbered.{IsTypeName, IsExpr, IsStmt, AreStmts}
 use Rattle.px_soundness.proofs.Clean.{Clean, clean_left, clean_right, kept, not_broken, or_right}
-use Rattle.px_soundness.proofs.Operators.{fitting, void_of, number_of, promotes_itself, compound_stands}
+use Rattle.px_soundness.proofs.Operators.{fitting, truth_of, void_of, number_of, promotes_itself, compound_stands, compound_joined}
 use Rattle.px_soundness.proofs.Standing.{Rest, IsFixed, fixed_at, regroup}
 use Rattle.px_soundness.proofs.Premises.{MembersStand, home as home_in, context as context_in, Sees}
 use Rattle.px_soundness.proofs.Expressions.{element_of, found_class, Good, expression_holds}
@@ -135,6 +138,7 @@ module _ (F : Facts) (slots : List Ty) (classes : Classes) (firsts : List ℕ) (
   -- what holds of a statement, by what its two walks give
   pub record Done (m : ℕ) (x : Stmt) (more : List Node) (l : Locals) (j : Judged) (t : Told) : Type 0 where
     pub typed : IsTypedStmt F slots result j.completes x
+    pub used : AreUsed F result x
     pub agrees : Agrees F slots classes firsts this result members j.locals t.scope
     pub longer : length l.table.names ≤ length j.locals.table.names
     pub rest : Rest F m more
@@ -149,7 +153,7 @@ module _ (F : Facts) (slots : List Ty) (classes : Classes) (firsts : List ℕ) (
       let is : judged C x reached l ≡ behind ns b = judged_by_form C x reached l ∙ ap (behind ns) e in
       let d = k (clean_right ns b.notes (subst (λ (z : Judged). Clean z.notes) is c)) (subst (λ (z : Told). IsFront z.scope) g h) (subst (λ (z : Told). Rest F x.id (z.nodes ++ more)) g r) in
       subst (λ (z : Judged). Done m x more l z p) (sym is) (subst (λ (z : Told). Done m x more l (behind ns b) z) (sym g)
-      (record { typed = d.typed; agrees = d.agrees; longer = d.longer; rest = d.rest }))
+      (record { typed = d.typed; used = d.used; agrees = d.agrees; longer = d.longer; rest = d.rest }))
 
   same_long : (l : Locals) → length l.table.names ≤ length l.table.names
   same_long l = omega arith
@@ -173,26 +177,28 @@ module _ (F : Facts) (slots : List Ty) (classes : Classes) (firsts : List ℕ) (
   empty_done : (x : Stmt) → x.form ≡ st.Empty → Does x.id x (x.id + 1)
   empty_done x h reached l s a more =
       by_statement (x.id + 1) x more reached l (judging.plain l []) _ (telling.plain [] s) (judged_empty C x.form x.token l h) (told_empty H x s h) (λ c h' r.
-      record { typed = IsTypedStmt.empty x h; agrees = a; longer = same_long l; rest = (fixed_at F x.id no_fact more no_fact_fixed r).next })
+      record { typed = IsTypedStmt.empty x h; used = used_empty F result x h; agrees = a; longer = same_long l; rest = (fixed_at F x.id no_fact more no_fact_fixed r).next })
 
   call_done : (m : ℕ) (x : Stmt) (value : Expr) → x.form ≡ st.Call value → IsExpr (x.id + 1) value m → Does x.id x m
   call_done m x value h d reached l s a more =
       by_statement m x more reached l (judging.plain l (typed C value false l).notes) _ (value_told H value s) (judged_call C x.form x.token l value h) (told_call H x s value h) (λ c h' r.
       let at = fixed_at F x.id no_fact (all_nodes (known H value s) ++ more) no_fact_fixed r in
       let g = valued (x.id + 1) m value d l s (see l s a) more c at.next in
-      record { typed = IsTypedStmt.call x value h g.typed; agrees = a; longer = same_long l; rest = g.rest })
+      record { typed = IsTypedStmt.call x value h g.typed; used = used_call_statement F result x value h g.used; agrees = a; longer = same_long l; rest = g.rest })
 
   print_done : (m : ℕ) (x : Stmt) (value : Expr) → x.form ≡ st.Print value → IsExpr (x.id + 1) value m → Does x.id x m
   print_done m x value h d reached l s a more =
       by_statement m x more reached l (judging.plain l (print C x.token value l)) _ (value_told H value s) (judged_print C x.form x.token l value h) (told_print H x s value h) (λ c h' r.
       let at = fixed_at F x.id no_fact (all_nodes (known H value s) ++ more) no_fact_fixed r in
       let g = valued (x.id + 1) m value d l s (see l s a) more (clean_left (typed C value false l).notes _ c) at.next in
-      record { typed = IsTypedStmt.print x value h g.typed; agrees = a; longer = same_long l; rest = g.rest })
+      let u = typed C value false l in
+      let shown = subst (λ (z : Ty). is_printable z ≡ true) (sym g.type_is) (kept (is_printable u.ty) x.token 6 (clean_right u.notes _ c)) in
+      record { typed = IsTypedStmt.print x value h g.typed; used = used_print F result x value h shown g.used; agrees = a; longer = same_long l; rest = g.rest })
 
   leave_done : (x : Stmt) → x.form ≡ st.Return None → Does x.id x (x.id + 1)
   leave_done x h reached l s a more =
       by_statement (x.id + 1) x more reached l (returned l (return_notes C x.token None l)) _ (return_told H None s) (judged_return C x.form x.token l None h) (told_return H x s None h) (λ c h' r.
-      record { typed = IsTypedStmt.leave x h (void_of result (kept (is_void result) x.token 10 c)); agrees = a; longer = same_long l; rest = (fixed_at F x.id no_fact more no_fact_fixed r).next })
+      record { typed = IsTypedStmt.leave x h (void_of result (kept (is_void result) x.token 10 c)); used = used_leave F result x h; agrees = a; longer = same_long l; rest = (fixed_at F x.id no_fact more no_fact_fixed r).next })
 
   give_done : (m : ℕ) (x : Stmt) (value : Expr) → x.form ≡ st.Return (Some value) → IsExpr (x.id + 1) value m → Does x.id x m
   give_done m x value h d reached l s a more =
@@ -203,7 +209,7 @@ module _ (F : Facts) (slots : List Ty) (classes : Classes) (firsts : List ℕ) (
       let c' = clean_right u.notes _ c in
       let not_void = not_broken (is_void result) x.token 10 (clean_left (breach_if (is_void result) x.token 10) _ c') in
       let fit = or_right (is_void result) (fits result u.ty) not_void (kept (is_void result || fits result u.ty) x.token 6 (clean_right (breach_if (is_void result) x.token 10) _ c')) in
-      record { typed = IsTypedStmt.give x value h (subst (λ (z : Ty). Fits z result) (sym g.type_is) (fitting result u.ty result_known g.known fit)) g.typed; agrees = a; longer = same_long l; rest = g.rest })
+      record { typed = IsTypedStmt.give x value h (subst (λ (z : Ty). Fits z result) (sym g.type_is) (fitting result u.ty result_known g.known fit)) g.typed; used = used_give F result x value h not_void g.used; agrees = a; longer = same_long l; rest = g.rest })
 
   -- ---- declarations
 
@@ -224,6 +230,7 @@ module _ (F : Facts) (slots : List Ty) (classes : Classes) (firsts : List ℕ) (
       let slot : slice_get slots (length s.slots) ≡ Some u = ap (λ (us : List Ty). slice_get us (length s.slots)) (h'.1 ∙ append_assoc s.slots (u ∷ []) h'.0) ∙ get_seam s.slots h'.0 u in
       record {
         typed = IsTypedStmt.local x t name value h (length s.slots, at.named_is, slot ∙ ap Some (sym at.type_is)) (subst (λ (z : Ty). Fits (type_at F value.id) z) (sym at.type_is) (fitted u value v x.token u_known g.known g.type_is (clean_right v.notes _ c''))) g.typed;
+        used = used_local F result x t name value h g.used;
         agrees = record { matches = declared_matches F slots classes firsts this result members l.table s name.bytes u a.matches fresh slot u_known; usable = refl };
         longer = declared_longer again l name.bytes u fresh;
         rest = g.rest;
@@ -302,6 +309,7 @@ module _ (F : Facts) (slots : List Ty) (classes : Classes) (firsts : List ℕ) (
       let fit = subst (λ (z : Ty). fits z v.ty ≡ true) placed.type_is (kept (fits to.ty v.ty) x.token 6 (clean_right v.notes _ c')) in
       record {
         typed = IsTypedStmt.assign x place value h (subst (λ (z : Ty). Fits (type_at F value.id) z) (sym g.type_is) (subst (λ (z : Ty). Fits z u.ty) (sym i.type_is) (fitting u.ty v.ty g.known i.known fit))) g.typed i.typed;
+        used = used_assign F result x place value h g.used i.used;
         agrees = a;
         longer = same_long l;
         rest = i.rest;
@@ -341,6 +349,9 @@ module _ (F : Facts) (slots : List Ty) (classes : Classes) (firsts : List ℕ) (
       let gives = compound_stands sign u v.ty k.known g.known fit in
       record {
         typed = IsTypedStmt.compound x name sign value h at.writes (subst (λ (z : Ty). GivesType (op_of sign z (type_at F value.id)) z (type_at F value.id) z) (sym at.type_is) (subst (λ (z : Ty). GivesType (op_of sign u z) u z u) (sym g.type_is) gives)) g.typed;
+        used = used_compound F result x name sign value h
+            (subst (λ (z : Ty). op_of sign z (type_at F value.id) ≡ op.Concat → joins z (type_at F value.id) ≡ true) (sym at.type_is) (subst (λ (z : Ty). op_of sign u z ≡ op.Concat → joins u z ≡ true) (sym g.type_is) (compound_joined sign u v.ty k.known g.known fit)))
+            g.used;
         agrees = a;
         longer = same_long l;
         rest = g.rest;
@@ -359,15 +370,21 @@ module _ (F : Facts) (slots : List Ty) (classes : Classes) (firsts : List ℕ) (
   up_done x name h reached l s a more =
       by_statement (x.id + 1) x more reached l (judging.plain l (step x.token name l)) _ (change_told name [] s) (judged_up C x.form x.token l name h) (told_up H x s name h) (λ c h' r.
       let k = stepped x name l s more a c r in
-      record { typed = IsTypedStmt.up x name h k.0.0 k.0.1; agrees = a; longer = same_long l; rest = k.1 })
+      record { typed = IsTypedStmt.up x name h k.0.0 k.0.1; used = used_up F result x name h; agrees = a; longer = same_long l; rest = k.1 })
 
   down_done : (x : Stmt) (name : Name) → x.form ≡ st.Down name → Does x.id x (x.id + 1)
   down_done x name h reached l s a more =
       by_statement (x.id + 1) x more reached l (judging.plain l (step x.token name l)) _ (change_told name [] s) (judged_down C x.form x.token l name h) (told_down H x s name h) (λ c h' r.
       let k = stepped x name l s more a c r in
-      record { typed = IsTypedStmt.down x name h k.0.0 k.0.1; agrees = a; longer = same_long l; rest = k.1 })
+      record { typed = IsTypedStmt.down x name h k.0.0 k.0.1; used = used_down F result x name h; agrees = a; longer = same_long l; rest = k.1 })
 
   -- ---- statements in statements
+
+  -- a test is a boolean
+  tested : (token : ℕ) (test : Expr) (l : Locals) (u : Typed) → u ≡ typed C test false l → type_at F test.id ≡ u.ty → is_unknown u.ty ≡ false → Clean (condition C token test l) → type_at F test.id ≡ ty.Boolean
+  tested token test l u is e k c =
+      let v = typed C test false l in
+      e ∙ truth_of u.ty k (subst (λ (z : Typed). fits ty.Boolean z.ty ≡ true) (sym is) (kept (fits ty.Boolean v.ty) token 6 (clean_right v.notes _ c)))
 
   while_done : (k m : ℕ) (x : Stmt) (test : Expr) (body : Stmt) → x.form ≡ st.While test body → IsExpr (x.id + 1) test k → IsStmt k body m → Does k body m → Does x.id x m
   while_done k m x test body h d g does reached l s a more =
@@ -379,7 +396,7 @@ module _ (F : Facts) (slots : List Ty) (classes : Classes) (firsts : List ℕ) (
       let at = fixed_at F x.id no_fact ((t ++ b.nodes) ++ more) no_fact_fixed r in
       let v = valued (x.id + 1) k test d l s (see l s a) (b.nodes ++ more) (clean_left u.notes _ (clean_left (condition C x.token test l) _ c)) (regroup F (x.id + 1) t b.nodes more at.next) in
       let y = does true l s a more (clean_right (condition C x.token test l) _ c) h' v.rest in
-      record { typed = IsTypedStmt.while x test body j.completes h v.typed y.typed; agrees = y.agrees; longer = y.longer; rest = y.rest })
+      record { typed = IsTypedStmt.while x test body j.completes h v.typed y.typed; used = used_while F result x test body h (tested x.token test l u refl v.type_is v.known (clean_left (condition C x.token test l) _ c)) v.used y.used; agrees = y.agrees; longer = y.longer; rest = y.rest })
 
   if_only_done : (k m : ℕ) (x : Stmt) (test : Expr) (y : Stmt) → x.form ≡ st.If test y None → IsExpr (x.id + 1) test k → Does k y m → Does x.id x m
   if_only_done k m x test y h d does reached l s a more =
@@ -391,7 +408,7 @@ module _ (F : Facts) (slots : List Ty) (classes : Classes) (firsts : List ℕ) (
       let at = fixed_at F x.id no_fact ((t ++ (b.nodes ++ [])) ++ more) no_fact_fixed r in
       let v = valued (x.id + 1) k test d l s (see l s a) ((b.nodes ++ []) ++ more) (clean_left u.notes _ (clean_left (condition C x.token test l) _ c)) (regroup F (x.id + 1) t (b.nodes ++ []) more at.next) in
       let z = does true l s a more (clean_left j.notes [] (clean_right (condition C x.token test l) _ c)) h' (regroup F k b.nodes [] more v.rest) in
-      record { typed = IsTypedStmt.if_only x test y j.completes h v.typed z.typed; agrees = z.agrees; longer = z.longer; rest = z.rest })
+      record { typed = IsTypedStmt.if_only x test y j.completes h v.typed z.typed; used = used_if F result x test y None h (tested x.token test l u refl v.type_is v.known (clean_left (condition C x.token test l) _ c)) v.used z.used tt; agrees = z.agrees; longer = z.longer; rest = z.rest })
 
   if_else_done : (k j m : ℕ) (x : Stmt) (test : Expr) (y n : Stmt) → x.form ≡ st.If test y (Some n) → IsExpr (x.id + 1) test k → IsStmt j n m → Does k y j → Does j n m → Does x.id x m
   if_else_done k j m x test y n h d g does does' reached l s a more =
@@ -407,7 +424,7 @@ module _ (F : Facts) (slots : List Ty) (classes : Classes) (firsts : List ℕ) (
       let c' = clean_right (condition C x.token test l) _ c in
       let z = does true l s a (b'.nodes ++ more) (clean_left one.notes _ c') (front_of b.scope b'.scope (grows H j m n g b.scope) h') (regroup F k b.nodes b'.nodes more v.rest) in
       let w = does' true one.locals b.scope z.agrees more (clean_right one.notes _ c') h' z.rest in
-      record { typed = IsTypedStmt.if_else x test y n one.completes two.completes h v.typed z.typed w.typed; agrees = w.agrees; longer = longer_both l one.locals two.locals z.longer w.longer; rest = w.rest })
+      record { typed = IsTypedStmt.if_else x test y n one.completes two.completes h v.typed z.typed w.typed; used = used_if F result x test y (Some n) h (tested x.token test l u refl v.type_is v.known (clean_left (condition C x.token test l) _ c)) v.used z.used (w.used, tt); agrees = w.agrees; longer = longer_both l one.locals two.locals z.longer w.longer; rest = w.rest })
 
   for_done : (k j i m : ℕ) (x first : Stmt) (test : Expr) (last body : Stmt) → x.form ≡ st.For first test last body → IsExpr k test j → IsStmt j last i → IsStmt i body m → Does (x.id + 1) first k → Does j last i → Does i body m → Does x.id x m
   for_done k j i m x first test last body h d g g' does does' does'' reached l s a more =
@@ -433,6 +450,7 @@ module _ (F : Facts) (slots : List Ty) (classes : Classes) (firsts : List ℕ) (
       let long = longer_both l f2.locals f3.locals (longer_both l f1.locals f2.locals one.longer two.longer) three.longer in
       record {
         typed = IsTypedStmt.for_loop x first test last body f1.completes f2.completes f3.completes h one.typed v.typed two.typed three.typed;
+        used = used_for F result x first test last body h (tested x.token test f1.locals u refl v.type_is v.known (clean_left (condition C x.token test f1.locals) _ c1)) v.used one.used two.used three.used;
         agrees = left_agrees F slots classes firsts this result members l f3.locals s b3.scope a three.agrees long;
         longer = left_longer l f3.locals long;
         rest = three.rest;
@@ -447,6 +465,7 @@ module _ (F : Facts) (slots : List Ty) (classes : Classes) (firsts : List ℕ) (
   record AllDone (m : ℕ) (xs : List Stmt) (more : List Node) (completes : Bool) (l : Locals) (j : Judged) (t : Told) : Type 0 where
     alone : completes ≡ true → AreTypedStmts F slots result j.completes xs
     after : (x : Stmt) → IsTypedStmt F slots result completes x → AreTypedStmts F slots result j.completes (x ∷ xs)
+    used : AreAllUsed F result xs
     agrees : Agrees F slots classes firsts this result members j.locals t.scope
     longer : length l.table.names ≤ length j.locals.table.names
     rest : Rest F m more
@@ -458,6 +477,7 @@ module _ (F : Facts) (slots : List Ty) (classes : Classes) (firsts : List ℕ) (
   none_done n completes l s a more c h r = record {
     alone = λ e. subst (λ (b : Bool). AreTypedStmts F slots result b []) (sym e) AreTypedStmts.none;
     after = λ x t. AreTypedStmts.last x completes t;
+    used = tt;
     agrees = a;
     longer = same_long l;
     rest = r;
@@ -474,6 +494,7 @@ module _ (F : Facts) (slots : List Ty) (classes : Classes) (firsts : List ℕ) (
       record {
         alone = λ e. two.after x one.typed;
         after = λ y w. AreTypedStmts.more y (x ∷ xs) completes j'.completes w (two.after x one.typed);
+        used = (one.used, two.used);
         agrees = two.agrees;
         longer = longer_both l j.locals j'.locals one.longer two.longer;
         rest = two.rest;
@@ -488,6 +509,7 @@ module _ (F : Facts) (slots : List Ty) (classes : Classes) (firsts : List ℕ) (
       let d = all true l s a more c h' at.next in
       record {
         typed = IsTypedStmt.block x items j.completes h (d.alone refl);
+        used = used_block F result x items h d.used;
         agrees = left_agrees F slots classes firsts this result members l j.locals s t.scope a d.agrees d.longer;
         longer = subst (λ n. length l.table.names ≤ n) (sym (length-take-le (length l.table.names) j.locals.table.names d.longer)) (omega arith);
         rest = d.rest;

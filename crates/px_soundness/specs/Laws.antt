@@ -1,18 +1,22 @@
 -- What the type rules promise of a program that they accept.
-use Rattle.std.specs.Prelude.{◌≡◌, ℕ, true, List, None, map, length}
+use Rattle.std.specs.Prelude.{◌≡◌, ℕ, true, List, Some, None, map, length}
 use Rattle.px_value.specs.declared.schema.Schema.{Schema}
 use Rattle.px_value.specs.declared.schema.Table.{Table}
 use Rattle.px_tree.specs.declared.Program.{Program}
+use Rattle.px_tree.specs.declared.Method.{Method}
+use Rattle.px_facts.specs.declared.checked.MethodFact.{MethodFact}
 use Rattle.px_grammar.specs.Programs.{IsProgram}
 use Rattle.px_rules.specs.Programs.{first_breach_of}
 use Rattle.px_rules.specs.Checked.{facts_of, checked_of}
 use Rattle.px_rows.specs.Tables.{Tables}
 use Rattle.px_semantics.specs.Asks.{by_tables}
-use Rattle.px_semantics.specs.Program.{source_from}
+use Rattle.px_semantics.specs.Facts.{by_number}
+use Rattle.px_semantics.specs.Program.{methods_of, source_from}
 use Rattle.px_semantics.specs.Serial.{Call, serial}
 use Rattle.px_semantics.specs.Typed.{are_kept}
 use Rattle.px_semantics.specs.Typing.{IsTyped}
 use Rattle.px_semantics.specs.TypedRuns.{OperationsFit, Passes, AreTypedCalls, IsTypedStand}
+use Rattle.px_uses.specs.Uses.{AreUsed}
 
 -- a text's program, without a breach of the rules over some tables
 pub record IsAccepted (bytes : List ℕ) (program : Program) (schema : Schema) : Type 0 where
@@ -29,6 +33,12 @@ widths_of schema = map width_of schema.tables
 -- What is known of an accepted program is true of its trees.
 abbrev pub AcceptedIsTyped : Type 0
 AcceptedIsTyped = (bytes : List ℕ) (program : Program) (schema : Schema) → IsAccepted bytes program schema → IsTyped (source_from (checked_of program schema))
+
+-- The parts of its methods are used as the rules say: what is tested is a boolean, what indexes is an int, a query asks for rows, and so on.
+abbrev pub AcceptedIsUsed : Type 0
+AcceptedIsUsed = (bytes : List ℕ) (program : Program) (schema : Schema) → IsAccepted bytes program schema
+    → (number : ℕ) (m : Method) (fact : MethodFact) → by_number (methods_of program.classes) number ≡ Some m → by_number (facts_of schema program).methods number ≡ Some fact
+    → AreUsed (facts_of schema program) fact.result m.body
 
 -- What it asks fits the tables that it declares.
 abbrev pub OperationsFitSchema : Type 0

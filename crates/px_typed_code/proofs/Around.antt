@@ -10,7 +10,6 @@ use Rattle.px_facts.specs.declared.types.Element.TheVariants as element
 use Rattle.px_facts.specs.Types.{is_void, is_null, element_type as static_element}
 use Rattle.px_facts.specs.declared.checked.Facts.{Facts}
 use Rattle.px_facts.specs.declared.checked.MethodFact.{MethodFact}
-use Rattle.px_facts.specs.declared.checked.Named.TheVariants as named
 use Rattle.px_facts.specs.declared.operation.Operation.{Operation}
 use Rattle.px_semantics.specs.Facts.{type_at, named_at, by_number, fields_of, element_number}
 use Rattle.px_semantics.specs.Typing.{is_select}
@@ -47,7 +46,6 @@ pub record IsCodeOf (F : Facts) (C : Code) : Type 0 where
   pub values : (class place : ℕ) (t : Static) → slice_get (fields_of F class) place ≡ Some t → is_value t ≡ true
   pub sites : (id site : ℕ) (k : Kind) → site_of (named_at F id) ≡ Some site → kind_of (named_at F id) (type_at F id) ≡ Some k → site_kind C site ≡ Some k
   pub statements : (number : ℕ) (o : Operation) → by_number F.operations number ≡ Some o → numbered C.statements number ≡ Some o.statement
-  pub queries : (id number site : ℕ) (o : Operation) → named_at F id ≡ named.Query number site → by_number F.operations number ≡ Some o → is_select o.statement ≡ true
 
 pub query_is : (s : Statement) → is_query s ≡ is_select s
 query_is (statement.ByKey t c) = refl

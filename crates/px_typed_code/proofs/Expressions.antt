@@ -47,8 +47,9 @@ use Rattle.px_lowering.specs.Expressions.{Lowers, Low, valued, stands, made, ope
 use Rattle.px_lowering.proofs.Forms.{low_number, low_text, low_true, low_false, low_null, low_this, low_name, low_group, low_field, low_index, low_call, low_new_object, low_new_array, low_prefix, low_binary}
 use Rattle.px_lowering.specs.Allocations.{kind_of}
 use Rattle.px_typed_code.specs.Laws.{site_of}
-use Rattle.px_typed_code.specs.Uses as uses
-use Rattle.px_typed_code.specs.Uses.{is_value, is_choice, joins, IsPart, IsUsed}
+use Rattle.px_uses.specs.Uses as uses
+use Rattle.px_uses.specs.Uses.{is_choice, joins, IsPart, AsksRows, IsUsed}
+use Rattle.px_typed_code.specs.Uses.{is_value}
 use Rattle.px_typed_code.specs.Nodes.{nodes_in, all_nodes}
 use Rattle.px_typed_code.proofs.Counted.{counted_none, nodes_if}
 use Rattle.px_typed_code.proofs.Operators.{IsPlain, GivesCode, gives_code, prefix_joins_none, SignIs, sign_is, never}
@@ -420,13 +421,13 @@ module _ (P : Checked) (C : Code) (gives : Option Ty) (code : IsCodeOf P.facts C
   taken : (o : Operation) (types : List Static) (es : List Expr) → types ≡ o.params → AreSendable o.params → Takes o es → (before : Counter) (d : Draft) → Stands d → FineArgs d o.params (arguments P types 0 before (map (part_of P) es) d)
   taken o types es e sends takes before d s = takes types 0 before (subst (λ ts. AreWanted ts 0 o.params) (sym e) (all_wanted [] o.params)) (sendable_values o.params sends) d s
 
-  query_means : (x : Expr) (of : Option Expr) (written : Expr) (es : List Expr) (number site : ℕ) (o : Operation) (token : ℕ) → named_at F x.id ≡ named.Query number site → by_number F.operations number ≡ Some o → type_at F x.id ≡ static.ResultSet → AreSendable o.params → Takes o es
+  query_means : (x : Expr) (of : Option Expr) (written : Expr) (es : List Expr) (number site : ℕ) (o : Operation) (token : ℕ) → AsksRows F (named_at F x.id) → named_at F x.id ≡ named.Query number site → by_number F.operations number ≡ Some o → type_at F x.id ≡ static.ResultSet → AreSendable o.params → Takes o es
       → Means (type_at F x.id) (call_low P (named_at F x.id) (option_map (part_of P) of) (map (part_of P) (written ∷ es)) x.id token)
-  query_means x of written es number site o token e k d sends takes =
+  query_means x of written es number site o token asks e k d sends takes =
       let n = named.Query number site in
       let types = params_of F n in
       let there = code.sites x.id site (kind.Rows number) (ap site_of e) (ap (λ m. kind_of m (type_at F x.id)) e) in
-      let rows : is_query o.statement ≡ true = query_is o.statement ∙ code.queries x.id number site o e k in
+      let rows : is_query o.statement ≡ true = query_is o.statement ∙ asks number site o e k in
       let args = taken o types es (ap operands_in k) sends takes in
       let fits : (slots : List Ty) (xs : List Operand) → ArgsFit slots o.params xs → StepFits P C gives slots static.ResultSet (step.Query number site xs) =
       (λ slots xs w. step_fits slots static.ResultSet (step.Query number site xs) (record { void = refl; null = refl }) (λ more g to z. (o.statement, code.statements number o k, rows, there, args_sent more o.params xs sends (args_more slots more o.params xs g w), z))) in
@@ -524,7 +525,7 @@ module _ (P : Checked) (C : Code) (gives : Option Ty) (code : IsCodeOf P.facts C
         (arguments_mean params args a (λ place y q. part x y u (uses.IsPart.argument x y (Some of) n args place h q))))
     expression_means _ (typing.IsTypedExpr.query x of n written args number site o h e k d p a) u =
         means_by x (type_at F x.id) _ (low_call P x of n (written ∷ args) h)
-        (query_means x of written args number site o x.token e k d p ((arguments_mean o.params args a (λ place y q. part x y u (uses.IsPart.argument x y of n (written ∷ args) (suc place) h q)))))
+        (query_means x of written args number site o x.token ((asked x u).query of n (written ∷ args) h) e k d p ((arguments_mean o.params args a (λ place y q. part x y u (uses.IsPart.argument x y of n (written ∷ args) (suc place) h q)))))
     expression_means _ (typing.IsTypedExpr.update x of n written args number o h e k c d p a) u =
         means_by x (type_at F x.id) _ (low_call P x of n (written ∷ args) h)
         (update_means x of written args number o x.token e k c d p ((arguments_mean o.params args a (λ place y q. part x y u (uses.IsPart.argument x y of n (written ∷ args) (suc place) h q)))))

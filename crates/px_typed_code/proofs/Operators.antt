@@ -15,7 +15,7 @@ use Rattle.px_normal.specs.declared.ty.Ty.TheVariants as ty
 use Rattle.px_normal.specs.Typed.{wide, number_type, if_any, bits_type, compared_type, op_type}
 use Rattle.px_lowering.specs.Types.{code_type}
 use Rattle.px_lowering.specs.Expressions.{choice_of}
-use Rattle.px_typed_code.specs.Uses.{joins, is_choice}
+use Rattle.px_uses.specs.Uses.{joins, is_choice}
 
 pub never : {B : Type 0} → true ≡ false → B
 never e = absurd (cc e)

@@ -148,7 +148,6 @@ module _ (P : Checked) (source : IsTypedSource (source_from P)) (used : AreUsedW
     values = used.fields;
     sites = λ id site k e h. let a = used.sites id site k e h in site_is site k a.0 a.1 a.2;
     statements = statement_is;
-    queries = used.queries;
   }
 
   -- ---- nodes

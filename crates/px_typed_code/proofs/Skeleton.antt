@@ -72,5 +72,4 @@ module _ (P : Checked) (typed : IsTypedSource (source_from P)) (used : AreUsedWe
     values = used.fields;
     sites = λ id site k e h. let a = used.sites id site k e h in ap kind_in (numbered_map bare_site (allocations P.facts 1 (methods_of P.program.classes)) site a.0 a.1) ∙ ap Some a.2;
     statements = λ number o e. numbered_map statement_of P.facts.operations number o e;
-    queries = used.queries;
   }

@@ -42,8 +42,9 @@ use Rattle.px_lowering.specs.Emit.{Lasted, Operated, node_at, noded, with_trees,
 use Rattle.px_lowering.specs.Expressions.{operand_at, fit_to, fitted_operand, low, part_of, put_name, put_member, put_element, put_form, put_low}
 use Rattle.px_lowering.specs.Statements.{whole, last_completes, completes_step, completes, Steps, lower_all, lower_if, store, change, compound_low, by_one_low, without_result, unused, branched, if_low, loop_low, return_low, print_low, low_stmt}
 use Rattle.px_lowering.proofs.StmtForms.{completes_block, completes_return, completes_if, low_block, low_empty, low_local, low_assign, low_compound, low_up, low_down, low_call, low_if, low_while, low_for, low_return, low_print}
-use Rattle.px_typed_code.specs.Uses as uses
-use Rattle.px_typed_code.specs.Uses.{is_value, is_result, joins, IsUsed, IsIn, IsInner, IsAskedOf, AreUsed}
+use Rattle.px_uses.specs.Uses as uses
+use Rattle.px_uses.specs.Uses.{joins, IsUsed, IsIn, IsInner, IsAskedOf, AreUsed}
+use Rattle.px_typed_code.specs.Uses.{is_value}
 use Rattle.px_typed_code.specs.Nodes.{all_nodes}
 use Rattle.px_typed_code.proofs.Counted.{counted_then, counted_none, counted_first, counted_by, nodes_if, nodes_loop, all_next}
 use Rattle.px_typed_code.proofs.Operators.{IsPlain, GivesCode, gives_code, never, never_so}

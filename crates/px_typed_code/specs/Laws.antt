@@ -1,5 +1,5 @@
 -- What is promised of the code of a typed program.
-use Rattle.std.specs.Prelude.{◌≡◌, ℕ, suc, true, List, [], ◌∷◌, length, Option, Some, None, slice_get, ◌++◌, map, option_map}
+use Rattle.std.specs.Prelude.{◌≡◌, ℕ, suc, true, List, ◌∷◌, length, Option, Some, None, slice_get, ◌++◌, map, option_map}
 use Rattle.px_value.specs.declared.header.Kind.{Kind}
 use Rattle.px_value.specs.declared.header.Kind.TheVariants as kind
 use Rattle.px_value.specs.declared.ty.Ty.{Ty as Outer}
@@ -15,7 +15,7 @@ use Rattle.px_facts.specs.declared.checked.Named.TheVariants as named
 use Rattle.px_facts.specs.declared.operation.Operation.{Operation}
 use Rattle.px_semantics.specs.Facts.{type_at, named_at, by_number, fields_of}
 use Rattle.px_semantics.specs.Program.{methods_of, source_from}
-use Rattle.px_semantics.specs.Typing.{IsTyped as IsTypedSource, is_select, inner_type}
+use Rattle.px_semantics.specs.Typing.{IsTyped as IsTypedSource, inner_type}
 use Rattle.px_normal.specs.declared.ty.Ty.{Ty as CodeTy}
 use Rattle.px_normal.specs.declared.ty.Ty.TheVariants as code_ty
 use Rattle.px_normal.specs.declared.method.Method.{Method as CodeMethod}
@@ -27,7 +27,8 @@ use Rattle.px_lowering.specs.Allocations.{kind_of}
 use Rattle.px_lowering.specs.Programs.{allocations, is_public, is_entry, lowered}
 use Rattle.px_lowering.specs.Types.{code_type}
 use Rattle.px_preservation.specs.Laws.{AreKnown}
-use Rattle.px_typed_code.specs.Uses.{is_value, is_result, AreUsed}
+use Rattle.px_uses.specs.Uses.{AreUsed}
+use Rattle.px_typed_code.specs.Uses.{is_value, is_result}
 
 -- ---- sites
 
@@ -68,8 +69,6 @@ pub record AreUsedWell (P : Checked) : Type 0 where
   -- the numbers of sites are those of the allocations in the text
   pub sites : (id site : ℕ) (k : Kind) → site_of (named_at P.facts id) ≡ Some site → kind_of (named_at P.facts id) (type_at P.facts id) ≡ Some k → (a : Allocation) × (by_number (allocations P.facts 1 (methods_of P.program.classes)) site ≡ Some a) × (a.kind ≡ k)
   pub kinds : (place : ℕ) (a : Allocation) → slice_get (allocations P.facts 1 (methods_of P.program.classes)) place ≡ Some a → IsKnownKind P.facts a.kind
-  -- a query asks for rows
-  pub queries : (id number site : ℕ) (o : Operation) → named_at P.facts id ≡ named.Query number site → by_number P.facts.operations number ≡ Some o → is_select o.statement ≡ true
   -- each public method of the main class is an entry
   pub entries : (number : ℕ) (m : Method) (fact : MethodFact) → by_number (methods_of P.program.classes) number ≡ Some m → by_number P.facts.methods number ≡ Some fact → is_entry m.access fact.class P.facts.main.class ≡ true → (place : ℕ) × (entry : Entry) × (slice_get P.facts.main.entries place ≡ Some entry) × (entry.method ≡ number)
 
