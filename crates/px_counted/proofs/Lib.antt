@@ -1,0 +1,15 @@
+pub mod Counts
+pub mod Keeps
+pub mod Steps
+pub mod Pieces
+pub mod Shares
+pub mod Operands
+pub mod Values
+pub mod Fits
+pub mod Slots
+pub mod Rows
+pub mod Choices
+pub mod MarkedForms
+pub mod Given
+pub mod Expressions
+pub mod Invoked

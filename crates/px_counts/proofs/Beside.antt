@@ -104,10 +104,10 @@ module _ (Q W Q' W' : Type 0) (ask : Ask Q W) (ask' : Ask Q' W') (C : Closed Q W
 
   -- ---- effects
 
-  act_alike : (act : Act) → AlikeThere Value (acts act) (acts act)
+  pub act_alike : (act : Act) → AlikeThere Value (acts act) (acts act)
   act_alike act = C.acts_alike (first_cells no_object) act
 
-  only_act_alike : (act : Act) → AlikeThere U (only_acts act) (only_acts act)
+  pub only_act_alike : (act : Act) → AlikeThere U (only_acts act) (only_acts act)
   only_act_alike act = then_alike (act_alike act) (λ v. C.pure_there U tt)
 
   pub act_here : (act : Act) → AlikeHere Value (on_shared (acts act)) (on_shared (acts act))
@@ -116,7 +116,7 @@ module _ (Q W Q' W' : Type 0) (ask : Ask Q W) (ask' : Ask Q' W') (C : Closed Q W
   pub only_act_here : (act : Act) → AlikeHere U (on_shared (only_acts act)) (on_shared (only_acts act))
   only_act_here act = shared_alike (only_act_alike act)
 
-  array_alike : (site : ℕ) (t : Ty) (size : Value) → AlikeThere Value (new_array site t size) (new_array site t size)
+  pub array_alike : (site : ℕ) (t : Ty) (size : Value) → AlikeThere Value (new_array site t size) (new_array site t size)
   array_alike site (ty.Array element) size = C.acts_alike (first_cells no_object) (cells.make_array (element_number element) site size)
   array_alike site ty.Unknown size = C.pure_there Value Null
   array_alike site ty.Void size = C.pure_there Value Null
@@ -130,7 +130,7 @@ module _ (Q W Q' W' : Type 0) (ask : Ask Q W) (ask' : Ask Q' W') (C : Closed Q W
 
   -- ---- values and names
 
-  fit_alike : (from from' to : Ty) → from ≡ from' → (v : Value) → AlikeHere Value (fit from to v) (fit from' to v)
+  pub fit_alike : (from from' to : Ty) → from ≡ from' → (v : Value) → AlikeHere Value (fit from to v) (fit from' to v)
   fit_alike from from' to h v = subst (λ (t : Ty). AlikeHere Value (fit from to v) (fit t to v)) h (came_here (widened from to v))
 
   -- what an expression means is alike
@@ -139,10 +139,10 @@ module _ (Q W Q' W' : Type 0) (ask : Ask Q W) (ask' : Ask Q' W') (C : Closed Q W
     pub run : AlikeHere Value m.run m'.run
     pub put : (from : Ty) (r : Here Q W Value) (l : Here Q' W' Value) → AlikeHere Value r l → AlikeHere U (m.put from r) (m'.put from l)
 
-  no_place_alike : (t : Ty) (r : Here Q W Value) (l : Here Q' W' Value) → AlikeHere Value r l → Like (no_place t r) (no_place t l)
+  pub no_place_alike : (t : Ty) (r : Here Q W Value) (l : Here Q' W' Value) → AlikeHere Value r l → Like (no_place t r) (no_place t l)
   no_place_alike t r l h = record { ty = refl; run = h; put = λ from r' l' h'. C.pure_here U tt }
 
-  name_alike : (n : Named) → AlikeHere Value (name_value n) (name_value n)
+  pub name_alike : (n : Named) → AlikeHere Value (name_value n) (name_value n)
   name_alike named.Nothing = C.pure_here Value Null
   name_alike (named.Local slot) = C.slots slot
   name_alike (named.Field class place) = bind_here (C.slots 0) (λ o. act_here (cells.get_field o place))
@@ -159,7 +159,7 @@ module _ (Q W Q' W' : Type 0) (ask : Ask Q W) (ask' : Ask Q' W') (C : Closed Q W
   name_alike named.GetLong = C.pure_here Value Null
   name_alike named.GetString = C.pure_here Value Null
 
-  put_name_alike : (n : Named) (to from : Ty) (r : Here Q W Value) (l : Here Q' W' Value) → AlikeHere Value r l → AlikeHere U (put_name n to from r) (put_name n to from l)
+  pub put_name_alike : (n : Named) (to from : Ty) (r : Here Q W Value) (l : Here Q' W' Value) → AlikeHere Value r l → AlikeHere U (put_name n to from r) (put_name n to from l)
   put_name_alike named.Nothing to from r l h = C.pure_here U tt
   put_name_alike (named.Local slot) to from r l h = bind_here (bind_here h (λ v. came_here (widened from to v))) (C.assigns slot)
   put_name_alike (named.Field class place) to from r l h = bind_here (C.slots 0) (λ o. bind_here (bind_here h (λ v. came_here (widened from to v))) (λ v. only_act_here (cells.put_field o place v)))
@@ -176,7 +176,7 @@ module _ (Q W Q' W' : Type 0) (ask : Ask Q W) (ask' : Ask Q' W') (C : Closed Q W
   put_name_alike named.GetLong to from r l h = C.pure_here U tt
   put_name_alike named.GetString to from r l h = C.pure_here U tt
 
-  member_alike : (n : Named) (o : Value) → AlikeHere Value (member_value n o) (member_value n o)
+  pub member_alike : (n : Named) (o : Value) → AlikeHere Value (member_value n o) (member_value n o)
   member_alike named.Nothing o = C.pure_here Value Null
   member_alike (named.Local slot) o = C.pure_here Value Null
   member_alike (named.Field class place) o = act_here (cells.get_field o place)
@@ -193,7 +193,7 @@ module _ (Q W Q' W' : Type 0) (ask : Ask Q W) (ask' : Ask Q' W') (C : Closed Q W
   member_alike named.GetLong o = C.pure_here Value Null
   member_alike named.GetString o = C.pure_here Value Null
 
-  put_member_alike : (n : Named) (o v : Value) → AlikeHere U (put_member n o v) (put_member n o v)
+  pub put_member_alike : (n : Named) (o v : Value) → AlikeHere U (put_member n o v) (put_member n o v)
   put_member_alike named.Nothing o v = C.pure_here U tt
   put_member_alike (named.Local slot) o v = C.pure_here U tt
   put_member_alike (named.Field class place) o v = only_act_here (cells.put_field o place v)
@@ -210,7 +210,7 @@ module _ (Q W Q' W' : Type 0) (ask : Ask Q W) (ask' : Ask Q' W') (C : Closed Q W
   put_member_alike named.GetLong o v = C.pure_here U tt
   put_member_alike named.GetString o v = C.pure_here U tt
 
-  object_here : (F : Facts) (n : Named) → AlikeHere Value (made_object F n) (made_object F n)
+  pub object_here : (F : Facts) (n : Named) → AlikeHere Value (made_object F n) (made_object F n)
   object_here F named.Nothing = C.pure_here Value Null
   object_here F (named.Local slot) = C.pure_here Value Null
   object_here F (named.Field class place) = C.pure_here Value Null
@@ -227,7 +227,7 @@ module _ (Q W Q' W' : Type 0) (ask : Ask Q W) (ask' : Ask Q' W') (C : Closed Q W
   object_here F named.GetLong = C.pure_here Value Null
   object_here F named.GetString = C.pure_here Value Null
 
-  array_here : (n : Named) (t : Ty) (size : Value) → AlikeHere Value (made_array n t size) (made_array n t size)
+  pub array_here : (n : Named) (t : Ty) (size : Value) → AlikeHere Value (made_array n t size) (made_array n t size)
   array_here named.Nothing t size = C.pure_here Value Null
   array_here (named.Local slot) t size = C.pure_here Value Null
   array_here (named.Field class place) t size = C.pure_here Value Null
@@ -278,10 +278,10 @@ module _ (Q W Q' W' : Type 0) (ask : Ask Q W) (ask' : Ask Q' W') (C : Closed Q W
     fitted_alike types place [] = tt
     fitted_alike types place (a ∷ args) = (fitted_run (slice_index_or types place ty.Unknown) a.0 a.1 a.2, fitted_alike types (place + 1) args)
 
-    method_alike : (method : ℕ) (values : List Value) → AlikeThere (Option Value) (call_method calls method values) (call_method calls' method values)
+    pub method_alike : (method : ℕ) (values : List Value) → AlikeThere (Option Value) (call_method calls method values) (call_method calls' method values)
     method_alike method values = then_alike (came_there (reference (value_at values 0))) (λ o. then_alike C.turns (λ u. calls_alike method values))
 
-    invoke_alike : (n : Named) (values : List Value) → AlikeHere Value (invoke P n values) (invoke L n values)
+    pub invoke_alike : (n : Named) (values : List Value) → AlikeHere Value (invoke P n values) (invoke L n values)
     invoke_alike named.Nothing values = C.pure_here Value Null
     invoke_alike (named.Local slot) values = C.pure_here Value Null
     invoke_alike (named.Field class place) values = C.pure_here Value Null
@@ -354,7 +354,7 @@ module _ (Q W Q' W' : Type 0) (ask : Ask Q W) (ask' : Ask Q' W') (C : Closed Q W
     goes_alike : {A : Type 0} {r : Here Q W A} {l : Here Q' W' A} → AlikeHere A r l → AlikeDoes (goes r) (goes l)
     goes_alike h = bind_here h (λ a. C.pure_here (Flow Value) Goes)
 
-    write_local_alike : (n : Named) (v : Value) → AlikeHere U (write_local n v) (write_local n v)
+    pub write_local_alike : (n : Named) (v : Value) → AlikeHere U (write_local n v) (write_local n v)
     write_local_alike named.Nothing v = C.pure_here U tt
     write_local_alike (named.Local slot) v = C.assigns slot v
     write_local_alike (named.Field class place) v = C.pure_here U tt
@@ -371,7 +371,7 @@ module _ (Q W Q' W' : Type 0) (ask : Ask Q W) (ask' : Ask Q' W') (C : Closed Q W
     write_local_alike named.GetLong v = C.pure_here U tt
     write_local_alike named.GetString v = C.pure_here U tt
 
-    change_local_alike : (n : Named) (o : Op) (r : Here Q W Value) (l : Here Q' W' Value) → AlikeHere Value r l → AlikeHere U (change_local n o r) (change_local n o l)
+    pub change_local_alike : (n : Named) (o : Op) (r : Here Q W Value) (l : Here Q' W' Value) → AlikeHere Value r l → AlikeHere U (change_local n o r) (change_local n o l)
     change_local_alike named.Nothing o r l h = C.pure_here U tt
     change_local_alike (named.Local slot) o r l h = bind_here (C.slots slot) (λ a. bind_here h (λ b. bind_here (came_here (apply o a b)) (C.assigns slot)))
     change_local_alike (named.Field class place) o r l h = C.pure_here U tt
@@ -397,7 +397,7 @@ module _ (Q W Q' W' : Type 0) (ask : Ask Q W) (ask' : Ask Q' W') (C : Closed Q W
     turned : {A : Type 0} {f : Unit {0} → Here Q W A} {g : Unit {0} → Here Q' W' A} → ((u : Unit {0}) → AlikeHere A (f u) (g u)) → AlikeHere A (on_shared turn >>= f) (on_shared turn >>= g)
     turned k = bind_here (shared_alike C.turns) k
 
-    loop_alike : (test : Here Q W Value) (test' : Here Q' W' Value) (body : Does Q W) (body' : Does Q' W') → AlikeHere Value test test' → AlikeDoes body body' → (n : ℕ) → AlikeDoes (loop test body n) (loop test' body' n)
+    pub loop_alike : (test : Here Q W Value) (test' : Here Q' W' Value) (body : Does Q W) (body' : Does Q' W') → AlikeHere Value test test' → AlikeDoes body body' → (n : ℕ) → AlikeDoes (loop test body n) (loop test' body' n)
     unfolding loop
     loop_alike test test' body body' h k zero = bind_here h (λ v. turned (λ u. C.throw_here (Flow Value) TurnsOut))
     loop_alike test test' body body' h k (suc n) = bind_here h (λ v. turned (λ u. either_here (Flow Value) (is_true v) (body >>= goes_on (loop test body n)) (pure Goes) (body' >>= goes_on (loop test' body' n)) (pure Goes) (bind_here k (goes_on_alike (loop test body n) (loop test' body' n) (loop_alike test test' body body' h k n))) (C.pure_here (Flow Value) Goes)))

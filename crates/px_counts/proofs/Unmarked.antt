@@ -32,10 +32,10 @@ module _ (Q W : Type 0) where
   abbrev U : Type 0
   U = Unit {0}
 
-  abbrev unmarked_frame : Frame (Marked W) → Frame W
+  abbrev pub unmarked_frame : Frame (Marked W) → Frame W
   unmarked_frame s = record { locals = s.locals; shared = unmarked_state s.shared }
 
-  abbrev unmarked_here : (A : Type 0) → Outcome Q (Frame (Marked W)) A → Outcome Q (Frame W) A
+  abbrev pub unmarked_here : (A : Type 0) → Outcome Q (Frame (Marked W)) A → Outcome Q (Frame W) A
   unmarked_here A (Gives a s) = Gives a (unmarked_frame s)
   unmarked_here A (Throws t s) = Throws t (unmarked_frame s)
   unmarked_here A (Asks q s) = Asks q (unmarked_frame s)
@@ -53,7 +53,7 @@ module _ (Q W : Type 0) where
   then_there_at A B (Throws t s) f g k = refl
   then_there_at A B (Asks q s) f g k = refl
 
-  same_then_there : (A B : Type 0) (r : There Q (Marked W) A) (l : There Q W A) (f : A → There Q (Marked W) B) (g : A → There Q W B) → SameThere A r l → ((a : A) → SameThere B (f a) (g a)) → SameThere B (r >>= f) (l >>= g)
+  pub same_then_there : (A B : Type 0) (r : There Q (Marked W) A) (l : There Q W A) (f : A → There Q (Marked W) B) (g : A → There Q W B) → SameThere A r l → ((a : A) → SameThere B (f a) (g a)) → SameThere B (r >>= f) (l >>= g)
   same_then_there A B r l f g h k = record { at = λ s. then_there_at A B (r s) f g k ∙ ap (λ (o : Outcome Q (Shared W) A). then_run o g) (h.at s) }
 
   then_here_at : (A B : Type 0) (o : Outcome Q (Frame (Marked W)) A) (f : A → Here Q (Marked W) B) (g : A → Here Q W B) → ((a : A) → SameHere B (f a) (g a)) → unmarked_here B (then_run o f) ≡ then_run (unmarked_here A o) g
@@ -61,7 +61,7 @@ module _ (Q W : Type 0) where
   then_here_at A B (Throws t s) f g k = refl
   then_here_at A B (Asks q s) f g k = refl
 
-  same_then_here : (A B : Type 0) (r : Here Q (Marked W) A) (l : Here Q W A) (f : A → Here Q (Marked W) B) (g : A → Here Q W B) → SameHere A r l → ((a : A) → SameHere B (f a) (g a)) → SameHere B (r >>= f) (l >>= g)
+  pub same_then_here : (A B : Type 0) (r : Here Q (Marked W) A) (l : Here Q W A) (f : A → Here Q (Marked W) B) (g : A → Here Q W B) → SameHere A r l → ((a : A) → SameHere B (f a) (g a)) → SameHere B (r >>= f) (l >>= g)
   same_then_here A B r l f g h k = record { at = λ s. then_here_at A B (r s) f g k ∙ ap (λ (o : Outcome Q (Frame W) A). then_run o g) (h.at s) }
 
   beside_at : (A : Type 0) (locals : List Value) (o : Outcome Q (Shared (Marked W)) A) → unmarked_here A (beside locals o) ≡ beside locals (unmarked o)
@@ -69,7 +69,7 @@ module _ (Q W : Type 0) where
   beside_at A locals (Throws t s) = refl
   beside_at A locals (Asks q s) = refl
 
-  same_shared : (A : Type 0) (r : There Q (Marked W) A) (l : There Q W A) → SameThere A r l → SameHere A (on_shared r) (on_shared l)
+  pub same_shared : (A : Type 0) (r : There Q (Marked W) A) (l : There Q W A) → SameThere A r l → SameHere A (on_shared r) (on_shared l)
   same_shared A r l h = record { at = λ s. beside_at A s.locals (r s.shared) ∙ ap (λ (o : Outcome Q (Shared W) A). beside s.locals o) (h.at s.shared) }
 
   -- ---- effects
@@ -78,14 +78,14 @@ module _ (Q W : Type 0) where
   turn_at true s = refl
   turn_at false s = refl
 
-  same_turn : SameThere U turn turn
+  pub same_turn : SameThere U turn turn
   same_turn = record { at = λ s. turn_at (nat_lt s.turns max_turns) s }
 
   ended_at : (v : Applied) (s : Shared (Marked W)) → unmarked {Q = Q} {W = W} {A = Value} (ended v s) ≡ ended v (unmarked_state s)
   ended_at (Ok v) s = refl
   ended_at (Err t) s = refl
 
-  same_act : (firsts : Firsts) (act : Act) → SameThere Value (does firsts act) (does firsts act)
+  pub same_act : (firsts : Firsts) (act : Act) → SameThere Value (does firsts act) (does firsts act)
   same_act firsts act = record { at = λ s. let a = acted firsts act s.heap in let l = landed s.prints a.ends in ended_at l.value (left s a l) }
 
   module _ (ask : Ask Q W) where
@@ -94,21 +94,21 @@ module _ (Q W : Type 0) where
     answered_at o s (Throws t w) = refl
     answered_at o s (Asks q w) = refl
 
-    same_asked : (o : TableOp) → SameThere Answer (asked (marked_ask ask) o) (asked ask o)
+    pub same_asked : (o : TableOp) → SameThere Answer (asked (marked_ask ask) o) (asked ask o)
     same_asked o = record { at = λ s. answered_at o s (ask o s.world.world) }
 
     told_at : (o : TableOp) (b : Bool) (s : Shared (Marked W)) → unmarked (if b then (asked (marked_ask ask) o >>= (λ answer. pure (Answers answer))) (counted s) else Gives Out s) ≡ (if b then (asked ask o >>= (λ answer. pure (Answers answer))) (counted (unmarked_state s)) else Gives Out (unmarked_state s))
     told_at o true s = (same_then_there Answer Said (asked (marked_ask ask) o) (asked ask o) (λ answer. pure (Answers answer)) (λ answer. pure (Answers answer)) (same_asked o) (λ answer. record { at = λ s. refl })).at (counted s)
     told_at o false s = refl
 
-    same_told : (o : TableOp) → SameThere Said (told (marked_ask ask) o) (told ask o)
+    pub same_told : (o : TableOp) → SameThere Said (told (marked_ask ask) o) (told ask o)
     same_told o = record { at = λ s. told_at o (nat_lt s.operations max_operations) s }
 
-    same_work : (firsts : Firsts) (work : Work) (f : Answer → Act) → SameThere Value (works firsts (marked_ask ask) work f) (works firsts ask work f)
+    pub same_work : (firsts : Firsts) (work : Work) (f : Answer → Act) → SameThere Value (works firsts (marked_ask ask) work f) (works firsts ask work f)
     same_work firsts (Acts act) f = same_act firsts act
     same_work firsts (Operates o) f = same_then_there Said Value (told (marked_ask ask) o) (told ask o) (λ said. does firsts (with_said f said)) (λ said. does firsts (with_said f said)) (same_told o) (λ said. same_act firsts (with_said f said))
 
-    abbrev unmarking : Closed Q (Marked W) Q W (marked_ask ask) ask
+    abbrev pub unmarking : Closed Q (Marked W) Q W (marked_ask ask) ask
     unmarking = record {
       Shares = SameThere;
       Frames = SameHere;
@@ -131,7 +131,7 @@ module _ (Q W : Type 0) where
     marks_nothing : (A : Type 0) (m : Mark) (r : Here Q (Marked W) A) (l : Here Q W A) → SameHere A r l → SameHere A (mark_here m >>= (λ u. r)) l
     marks_nothing A m r l h = record { at = λ s. h.at (record s { shared = record s.shared { world = record s.shared.world { marks = s.shared.world.marks ++ m ∷ [] } } }) }
 
-    abbrev Same : Meant Q (Marked W) → Meant Q W → Type 0
+    abbrev pub Same : Meant Q (Marked W) → Meant Q W → Type 0
     Same m m' = Like Q (Marked W) Q W (marked_ask ask) ask unmarking m m'
 
     gives_at : (A : Type 0) (o : Outcome Q (Frame W) A) → then_run o (λ a. pure a) ≡ o
@@ -150,7 +150,7 @@ module _ (Q W : Type 0) where
       put = h.put;
     }
 
-    abbrev Alike : Does Q (Marked W) → Does Q W → Type 0
+    abbrev pub Alike : Does Q (Marked W) → Does Q W → Type 0
     Alike r l = SameHere (Flow Value) r l
 
     completed_alike : (id : ℕ) (f : Flow Value) → Alike (completed id f) (pure f)
@@ -167,18 +167,18 @@ module _ (Q W : Type 0) where
     -- ---- the program
 
     module _ (F : Facts) (calls : Calls Q (Marked W)) (calls' : Calls Q W) (calls_alike : (method : ℕ) (values : List Value) → SameThere (Option Value) (calls method values) (calls' method values)) where
-      abbrev Left : Around Q (Marked W)
+      abbrev pub Left : Around Q (Marked W)
       Left = record { facts = F; ask = marked_ask ask; calls = calls }
 
-      abbrev Right : Around Q W
+      abbrev pub Right : Around Q W
       Right = record { facts = F; ask = ask; calls = calls' }
 
-      meant_alike : (x : Expr) → Same (meant_with_marks Left x) (meant Right x)
+      pub meant_alike : (x : Expr) → Same (meant_with_marks Left x) (meant Right x)
       unfolding meant_with_marks meant
       meant_alike x = exprs_meet (Meant Q (Marked W)) (Meant Q W) (λ form id. marked_meant id (expr_step Left form id)) (expr_step Right) Same
           (λ z i. marked_meant_alike i (expr_step Left (lefts (Meant Q (Marked W)) (Meant Q W) Same z) i) (expr_step Right (rights (Meant Q (Marked W)) (Meant Q W) Same z) i) (expr_alike Q (Marked W) Q W (marked_ask ask) ask unmarking F calls calls' calls_alike z i)) x
 
-      done_alike : (result : Ty) (x : Stmt) → Alike (done_with_marks Left result x) (done_by Right result x)
+      pub done_alike : (result : Ty) (x : Stmt) → Alike (done_with_marks Left result x) (done_by Right result x)
       unfolding done_with_marks done_by
       done_alike result x = stmts_meet (Does Q (Marked W)) (Does Q W) (λ form id. marked_does id (stmt_step F (meant_with_marks Left) result form id)) (stmt_step F (meant Right) result) Alike
           (λ z i. marked_does_alike i (stmt_step F (meant_with_marks Left) result (left_parts (Does Q (Marked W)) (Does Q W) Alike z) i) (stmt_step F (meant Right) result (right_parts (Does Q (Marked W)) (Does Q W) Alike z) i) (stmt_alike Q (Marked W) Q W (marked_ask ask) ask unmarking F (meant_with_marks Left) (meant Right) meant_alike result z i)) x
@@ -198,7 +198,7 @@ module _ (Q W : Type 0) where
       enters_alike number (Some m) None values = record { at = λ s. refl }
       enters_alike number None f values = record { at = λ s. refl }
 
-    calls_alike : (S : Source) (n method : ℕ) (values : List Value) → SameThere (Option Value) (calls_with_marks ask S n method values) (calls_in ask S n method values)
+    pub calls_alike : (S : Source) (n method : ℕ) (values : List Value) → SameThere (Option Value) (calls_with_marks ask S n method values) (calls_in ask S n method values)
     unfolding calls_with_marks calls_in
     calls_alike S zero method values = record { at = λ s. refl }
     calls_alike S (suc n) method values = enters_alike S.facts (calls_with_marks ask S n) (calls_in ask S n) (calls_alike S n) method (by_number S.methods method) (by_number S.facts.methods method) values

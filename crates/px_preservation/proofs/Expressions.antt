@@ -59,7 +59,7 @@ pub within : (slots : List Static) (n k : ℕ) (t : Static) → n ≡ length slo
 within slots n k t e h = let b = slice_get_within slots k t h in omega (arith, e, b)
 
 -- the negative of a bare number
-negative : (digits : List ℕ) (long : Bool) → apply op.Neg (literal digits long) (literal digits long) ≡ Ok (negated (literal digits long))
+pub negative : (digits : List ℕ) (long : Bool) → apply op.Neg (literal digits long) (literal digits long) ≡ Ok (negated (literal digits long))
 unfolding apply
 negative digits true = refl
 negative digits false = refl
