@@ -9,3 +9,10 @@ pub mod Skeleton
 pub mod Members
 pub mod Programs
 pub mod Order
+pub mod Few
+pub mod FewStatements
+pub mod FewMethods
+pub mod FewNodes
+pub mod FewNodeStatements
+pub mod FewAllocations
+pub mod FewNodeMethods
