@@ -13,3 +13,5 @@ pub mod MarkedForms
 pub mod Given
 pub mod Expressions
 pub mod Invoked
+pub mod Prefixes
+pub mod AllExpressions
