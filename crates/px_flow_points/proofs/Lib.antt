@@ -7,4 +7,12 @@ mod Numbering
 mod Ranges
 mod Kept
 mod Touching
+mod TouchWalk
+mod TouchOrder
+mod TouchWhere
+mod Rising
+mod ByNode
+pub mod Elements
+pub mod Inserting
+pub mod Ordered
 pub mod Typing

@@ -13,7 +13,7 @@ use Rattle.px_flow_points.specs.There.{WordThere, NumbersExist}
 use Rattle.px_flow_points.specs.Points.{ReadsPart, WritesPart}
 use Rattle.px_flow_points.specs.Points as points
 use Rattle.px_flow_points.specs.Exact.{PointsOf, ArePoints}
-use Rattle.px_flow_points.specs.Touched.{reads_of, writes_of, part_of_word, AreTouched}
+use Rattle.px_flow_points.specs.Touched.{reads_of, writes_of, part_of_word, AreTouchedByWord}
 
 none_at : (s : ℕ) → At [] s → ⊥
 none_at s h = cc
@@ -138,7 +138,7 @@ module _ (code : Code) (P : PointsOf) (A : ArePoints code P) (m : ℕ) where
   writes_up (w.Print a) t = none_rises
   writes_up (w.Return a) t = none_rises
 
-pub are_touched : (code : Code) (P : PointsOf) → NumbersExist code → ArePoints code P → AreTouched code P
+pub are_touched : (code : Code) (P : PointsOf) → NumbersExist code → ArePoints code P → AreTouchedByWord code P
 are_touched code P E A = record {
   reads = λ m node s word part has. record { to = λ h. subst (λ (p : Part). ReadsPart code m word s p) h.1 (reads_to code P A m word s (E.words has) h.0); back = λ r. reads_back code P A m word s part (E.words has) r };
   writes = λ m node s word part has. record { to = λ h. subst (λ (p : Part). WritesPart code m word s p) h.1 (writes_to code P A m word s (E.words has) h.0); back = λ r. writes_back code P A m word s part (E.words has) r };

@@ -7,4 +7,6 @@ pub mod Constraints
 pub mod Laws
 pub mod Exact
 pub mod Touched
+pub mod Order
+pub mod ByNode
 pub mod TypedPoints

@@ -39,7 +39,7 @@ part_of_word (w.Put a class field x) = Field field
 part_of_word _ = Elements
 
 -- exactly the pairs of each statement, in rising order
-pub record AreTouched (code : Code) (P : PointsOf) : Type 0 where
+pub record AreTouchedByWord (code : Code) (P : PointsOf) : Type 0 where
   pub reads : (m node s : ℕ) (word : Word) (part : Part) → HasStatement code m node word → Both (At (reads_of P m word) s × (part_of_word word ≡ part)) (ReadsPart code m word s part)
   pub writes : (m node s : ℕ) (word : Word) (part : Part) → HasStatement code m node word → Both (At (writes_of P m word) s × (part_of_word word ≡ part)) (WritesPart code m word s part)
   pub reads_rise : (m node : ℕ) (word : Word) → HasStatement code m node word → Rises (reads_of P m word)

@@ -4,10 +4,12 @@
 mod collect;
 pub mod law;
 mod numbers;
+mod pairs;
 mod part;
 mod points;
+mod sets;
 mod touched;
 
-pub use part::Part;
+pub use pairs::Touch;
+pub use part::{Pair, Part};
 pub use points::{Points, points_to};
-pub use touched::part_of;
