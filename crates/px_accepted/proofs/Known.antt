@@ -18,7 +18,7 @@ use Rattle.px_soundness.proofs.Clean.{Clean, clean_left, clean_right, not_broken
 use Rattle.px_soundness.proofs.Scopes.{length_push, declare_fresh}
 use Rattle.px_preservation.specs.Laws.{fields_in, AreKnown}
 
-no_notes : (schema : Schema) (program : Program) → first_breach_of schema program ≡ None → Clean (notes_of schema program)
+pub no_notes : (schema : Schema) (program : Program) → first_breach_of schema program ≡ None → Clean (notes_of schema program)
 unfolding first_breach_of
 no_notes schema program h = all_clean (notes_of schema program) h
 

@@ -1,3 +1,11 @@
 pub mod Known
 pub mod Given
 pub mod Numbered
+pub mod KnownTypes
+pub mod Written
+pub mod Made
+pub mod Places
+pub mod Sound
+pub mod SoundBodies
+pub mod KnownEntries
+pub mod KnownProgram
