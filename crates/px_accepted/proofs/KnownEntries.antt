@@ -114,7 +114,7 @@ module _ (classes : Classes) (firsts : List ℕ) where
       let others = (all_found (home (this + 1)) cs).methods in
       let own : slice_get (methods_of cs) j ≡ Some m = sym (get_behind ms (methods_of cs) j) ∙ ap (λ (n : ℕ). slice_get (ms ++ methods_of cs) n) (sym e) ∙ h in
       let known : slice_get others j ≡ Some fact =
-          sym (get_behind (map f ms) others j) ∙ ap (λ (n : ℕ). slice_get (map f ms ++ others) (n + j)) (length-map ms f) ∙ ap (λ (n : ℕ). slice_get (map f ms ++ others) n) (sym e) ∙ i in
+      sym (get_behind (map f ms) others j) ∙ ap (λ (n : ℕ). slice_get (map f ms ++ others) (n + j)) (length-map ms f) ∙ ap (λ (n : ℕ). slice_get (map f ms ++ others) n) (sym e) ∙ i in
       let r = later j own known in
       let number = r.number_is in
       record { class = suc r.class; c = r.c; c_is = r.c_is; q = r.q; m_is = r.m_is; owner = r.owner ∙ one_more this r.class; own_first = r.own_first; first_is = r.first_is; number_is = omega (arith, number, long, e) }

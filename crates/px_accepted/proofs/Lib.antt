@@ -9,3 +9,4 @@ pub mod Sound
 pub mod SoundBodies
 pub mod KnownEntries
 pub mod KnownProgram
+pub mod UsedWell

@@ -147,9 +147,11 @@ module _ (F : Facts) (classes : Classes) (firsts : List ℕ) (this : ℕ) (resul
   call_sound x of name args h q hold all neg l s =
       let T = typed C of neg l in
       let found = method_of T.ty name.bytes classes in
-      by_form _ (call C x.token T name (map (typed C) args) l) _ (call_known H (known H of s) name.bytes (argument_nodes s (map (known H) args))) (typed_by_form C x neg l ∙ typed_call C x.form x.token neg l of of name args h refl q) (known_by_form H x s ∙ known_call H x.form s of of name args h refl q) (λ c.
-      (IsSound.nothing (method_fact H (known H of s).own.fact.ty name.bytes) (method_plain H (known H of s).own.fact.ty (method_place (known H of s).own.fact.ty name.bytes classes)), sound_both F (all_nodes (known H of s)) (argument_nodes s (map (known H) args)) (hold neg l s (clean_left T.notes _ c))
-      (all x.token (wanted (length (map (typed C) args)) found) 0 l s (clean_right (method_notes C T.ty name (length (map (typed C) args)) found) _ (clean_right T.notes _ c)))))
+      by_form _ (call C x.token T name (map (typed C) args) l) _ (call_known H (known H of s) name.bytes (argument_nodes s (map (known H) args))) (typed_by_form C x neg l ∙ typed_call C x.form x.token neg l of of name args h refl q) (known_by_form H x s ∙ known_call H x.form s of of name args h refl q) (λ c. (
+        IsSound.nothing (method_fact H (known H of s).own.fact.ty name.bytes) (method_plain H (known H of s).own.fact.ty (method_place (known H of s).own.fact.ty name.bytes classes)),
+        sound_both F (all_nodes (known H of s)) (argument_nodes s (map (known H) args)) (hold neg l s (clean_left T.notes _ c))
+            (all x.token (wanted (length (map (typed C) args)) found) 0 l s (clean_right (method_notes C T.ty name (length (map (typed C) args)) found) _ (clean_right T.notes _ c))),
+      ))
 
   -- the first argument of a call of `Db`, and the others
   data Split : List Expr → Type 0 where

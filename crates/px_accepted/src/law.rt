@@ -1,6 +1,7 @@
 //! What holds of the code of accepted programs.
 
 ghost use Rattle.px_accepted.specs.Laws.{AcceptedKeepsMeaning, AcceptedIsNumbered};
+ghost use Rattle.px_accepted.specs.Laws.{AcceptedCodeIsTyped, AcceptedEntriesAreMethods, AcceptedNodesAreInOrder};
 
 /// The code of an accepted program does what the program does.
 pub fn accepted_keeps_meaning<Q, W>()
@@ -10,4 +11,20 @@ pub fn accepted_keeps_meaning<Q, W>()
 /// No two statements or expressions of an accepted program have one number.
 pub fn accepted_is_numbered()
     ensures { AcceptedIsNumbered }
+{}
+
+/// The code of an accepted program is typed.
+pub fn accepted_code_is_typed()
+    ensures { AcceptedCodeIsTyped }
+{}
+
+/// Each entry of an accepted program is a method that jobs may call, with the entry's parameters and
+/// its result.
+pub fn accepted_entries_are_methods()
+    ensures { AcceptedEntriesAreMethods }
+{}
+
+/// The nodes of an accepted program are numbered from 1 in the order of its code.
+pub fn accepted_nodes_are_in_order()
+    ensures { AcceptedNodesAreInOrder }
 {}
