@@ -1,7 +1,7 @@
 -- The methods of an accepted program stand where their numbers say, and the public ones of the class Main are its entries.
-use Rattle.std.proofs.Common.{◌≡◌, ◌<◌, ℕ, zero, suc, ◌+◌, Bool, true, false, ◌&&◌, List, [], ◌∷◌, ◌++◌, map, length, drop, Option, Some, None, codes, slice_get, unwrap_or, if◌then◌else◌, refl, sym, ap, ◌∙◌, subst, arith}
+use Rattle.std.proofs.Common.{◌≡◌, ◌<◌, ℕ, zero, suc, ◌+◌, Bool, true, false, List, [], ◌∷◌, ◌++◌, map, length, drop, Option, Some, codes, slice_get, unwrap_or, if◌then◌else◌, refl, sym, ap, ◌∙◌, subst, arith}
 use Rattle.std.specs.Str.{bytes_eq}
-use Rattle.std.proofs.lemmas.Bool.{true≢false, eqb-true}
+use Rattle.std.proofs.lemmas.Bool.{true≢false}
 use Rattle.std.proofs.lemmas.List.{length-map}
 use Rattle.std.proofs.lemmas.Option.{slice_get_within}
 use Rattle.px_tree.specs.declared.Access.{Access}
@@ -22,7 +22,7 @@ use Rattle.px_rules.specs.Bodies.{firsts_from, method_known, class_found, all_fo
 use Rattle.px_rules.specs.Entries.{entry_of, entry_if, entries_from, first_method, main_from}
 use Rattle.px_semantics.specs.Program.{methods_in, methods_of}
 use Rattle.px_lowering.specs.Programs.{is_public}
-use Rattle.px_soundness.proofs.Clean.{Clean, and_left, and_right, some_is}
+use Rattle.px_soundness.proofs.Clean.{Clean, some_is}
 use Rattle.px_soundness.proofs.Standing.{first_in_drop, rest_in_drop, add_one}
 use Rattle.px_soundness.proofs.Programs.{AllProper}
 use Rattle.px_soundness.proofs.Scopes.{get_before}

@@ -1,5 +1,5 @@
 -- What typed code asks of the facts of an accepted program, beside its bodies.
-use Rattle.std.proofs.Common.{◌≡◌, ℕ, zero, suc, ◌+◌, Bool, true, false, ◌&&◌, List, [], ◌∷◌, ◌++◌, map, drop, Option, Some, None, slice_get, if◌then◌else◌, refl, sym, ap, ◌∙◌, subst, arith}
+use Rattle.std.proofs.Common.{◌≡◌, ℕ, zero, suc, ◌+◌, Bool, true, false, List, [], ◌∷◌, ◌++◌, map, drop, Option, Some, None, slice_get, if◌then◌else◌, refl, sym, ap, ◌∙◌, subst, arith}
 use Rattle.std.specs.Prelude.{nat_eq}
 use Rattle.std.specs.Option.{option_map}
 use Rattle.std.proofs.lemmas.Bool.{eqb-true}
@@ -16,7 +16,6 @@ use Rattle.px_facts.specs.declared.checked.Entry.{Entry}
 use Rattle.px_facts.specs.declared.checked.Facts.{Facts}
 use Rattle.px_rules.specs.declared.node.Node.{Node}
 use Rattle.px_rules.specs.declared.table.Table.{Table}
-use Rattle.px_rules.specs.declared.classes.Members.{Members}
 use Rattle.px_rules.specs.declared.classes.Classes.{Classes}
 use Rattle.px_rules.specs.Names.{empty, declare, has_name, place_of, value_at, find}
 use Rattle.px_rules.specs.Members.{numbered, class_members, classes_of}
@@ -39,7 +38,7 @@ use Rattle.px_accepted.proofs.KnownTypes.{classes_values, field_value, value_at 
 use Rattle.px_accepted.proofs.KnownEntries.{IsMain, main_is, public_is_entry, entry_is_public}
 use Rattle.px_accepted.proofs.Made.{AllSound, site_placed, kinds_known}
 use Rattle.px_accepted.proofs.Places.{kind_in, all_allocated}
-use Rattle.px_accepted.proofs.SoundBodies.{IsGood, AllGood, good_at, classes_good}
+use Rattle.px_accepted.proofs.SoundBodies.{AllGood, good_at, classes_good}
 
 -- ---- names of classes
 

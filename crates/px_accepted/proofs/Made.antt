@@ -2,7 +2,6 @@
 use Rattle.std.proofs.Common.{◌≡◌, ℕ, zero, suc, ◌+◌, Bool, true, false, List, [], ◌∷◌, ◌++◌, drop, Option, Some, None, slice_get, refl, sym, ap, ◌∙◌, subst, arith}
 use Rattle.std.proofs.lemmas.Bool.{true≢false}
 use Rattle.px_value.specs.declared.header.Kind.{Kind}
-use Rattle.px_value.specs.declared.header.Kind.TheVariants as kind
 use Rattle.px_facts.specs.declared.types.Ty.{Ty}
 use Rattle.px_facts.specs.declared.types.Ty.TheVariants as ty
 use Rattle.px_facts.specs.declared.types.Element.{Element}
@@ -14,11 +13,11 @@ use Rattle.px_facts.specs.declared.operation.Operation.{Operation}
 use Rattle.px_rules.specs.declared.node.Node.{Node}
 use Rattle.px_rules.specs.Known.{fact_only}
 use Rattle.px_rules.specs.Sites.{with_numbers, call_after, site_after, sited, operations_in}
-use Rattle.px_semantics.specs.Facts.{type_in, named_in, by_number, element_number}
+use Rattle.px_semantics.specs.Facts.{type_in, named_in, element_number}
 use Rattle.px_lowering.specs.Allocations.{kind_of}
 use Rattle.px_typed_code.specs.Laws.{site_of, IsKnownClass, IsKnownElement, IsKnownKind}
 use Rattle.px_soundness.proofs.Clean.{some_is}
-use Rattle.px_soundness.proofs.Standing.{first_in_drop, rest_in_drop, add_one}
+use Rattle.px_soundness.proofs.Standing.{first_in_drop, rest_in_drop}
 
 -- ---- names that make nothing
 

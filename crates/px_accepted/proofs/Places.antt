@@ -1,5 +1,5 @@
 -- What a tree allocates is what the facts of its numbers make, in one order.
-use Rattle.std.proofs.Common.{◌≡◌, ℕ, zero, suc, ◌+◌, Bool, true, List, [], ◌∷◌, ◌++◌, map, length, drop, Option, Some, None, slice_get, refl, sym, ap, ◌∙◌, subst, append_assoc, append-nil, arith}
+use Rattle.std.proofs.Common.{◌≡◌, ℕ, zero, suc, ◌+◌, true, List, [], ◌∷◌, ◌++◌, map, length, drop, Option, Some, None, slice_get, refl, sym, ap, ◌∙◌, subst, append_assoc, append-nil, arith}
 use Rattle.px_value.specs.declared.header.Kind.{Kind}
 use Rattle.px_tree.specs.declared.Name.{Name as NameData}
 use Rattle.px_tree.specs.declared.Expr.{Expr, fold_out-Expr}
@@ -9,9 +9,7 @@ use Rattle.px_tree.specs.declared.ExprForm.TheOpen.{ExprForm-F as f}
 use Rattle.px_tree.specs.declared.Stmt.{Stmt}
 use Rattle.px_tree.specs.declared.Method.{Method}
 use Rattle.px_tree.specs.declared.Member.{Member}
-use Rattle.px_tree.specs.declared.Member.TheVariants as member
 use Rattle.px_tree.specs.declared.Class.{Class}
-use Rattle.px_facts.specs.declared.types.Ty.{Ty}
 use Rattle.px_facts.specs.declared.checked.Named.{Named}
 use Rattle.px_facts.specs.declared.checked.Fact.{Fact}
 use Rattle.px_facts.specs.declared.checked.Facts.{Facts}
@@ -37,8 +35,8 @@ use Rattle.px_lowering.specs.Allocations.{kind_of, one_of, all_of, inner, one_at
 use Rattle.px_lowering.specs.Programs.{allocations}
 use Rattle.px_lowering.proofs.AllocationForms.{found_group, found_field, found_index, found_call, found_new_array, found_prefix, found_binary, found_block, found_empty, found_local, found_assign, found_compound, found_up, found_down, found_call_statement, found_if, found_while, found_for, found_return, found_print}
 use Rattle.px_soundness.specs.Numbered.{IsExpr, AreExprs, IsStmt, AreStmts, AreMembers, AreClasses}
-use Rattle.px_soundness.proofs.Standing.{first_in_drop, rest_in_drop, add_one}
-use Rattle.px_accepted.proofs.Made.{is_plain, IsPlain, plain, one_kind, kinds_in}
+use Rattle.px_soundness.proofs.Standing.{rest_in_drop, add_one}
+use Rattle.px_accepted.proofs.Made.{is_plain, plain, one_kind, kinds_in}
 use Rattle.px_accepted.proofs.Written.{how_written, receiver_end}
 
 -- ---- nodes of a tree

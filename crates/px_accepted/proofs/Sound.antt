@@ -3,22 +3,17 @@ use Rattle.std.proofs.Common.{◌≡◌, ℕ, zero, suc, ◌+◌, Bool, true, fa
 use Rattle.std.specs.Prelude.{is_none}
 use Rattle.px_value.specs.declared.schema.Schema.{Schema}
 use Rattle.px_tree.specs.declared.Base.{Base}
-use Rattle.px_tree.specs.declared.Sign.{Sign}
 use Rattle.px_tree.specs.declared.Name.{Name}
 use Rattle.px_tree.specs.declared.Expr.{Expr}
 use Rattle.px_tree.specs.declared.ExprForm.TheVariants as e
 use Rattle.px_facts.specs.declared.types.Ty.{Ty}
 use Rattle.px_facts.specs.declared.types.Ty.TheVariants as ty
-use Rattle.px_facts.specs.declared.types.Element.{Element}
 use Rattle.px_facts.specs.declared.types.Element.TheVariants as element
 use Rattle.px_facts.specs.declared.checked.Fact.{Fact}
 use Rattle.px_facts.specs.declared.checked.Facts.{Facts}
 use Rattle.px_facts.specs.declared.operation.Operation.{Operation}
-use Rattle.px_facts.specs.Types.{array_of, indexed, fits}
-use Rattle.px_rules.specs.declared.node.Node.{Node}
-use Rattle.px_rules.specs.declared.table.Table.{Table}
+use Rattle.px_facts.specs.Types.{array_of, indexed}
 use Rattle.px_rules.specs.declared.classes.Classes.{Classes}
-use Rattle.px_rules.specs.declared.classes.MethodType.{MethodType}
 use Rattle.px_rules.specs.declared.context.Context.{Context}
 use Rattle.px_rules.specs.declared.home.Home.{Home}
 use Rattle.px_rules.specs.declared.locals.Locals.{Locals}
@@ -26,21 +21,20 @@ use Rattle.px_rules.specs.declared.scope.Scope.{Scope}
 use Rattle.px_rules.specs.declared.scope.Slot.{Slot}
 use Rattle.px_rules.specs.declared.database.Verb.{Verb}
 use Rattle.px_rules.specs.declared.database.Verb.TheVariants as verb
-use Rattle.px_rules.specs.Breaches.{Note, breach_if}
+use Rattle.px_rules.specs.Breaches.{breach_if}
 use Rattle.px_rules.specs.Literals.{literal_type}
 use Rattle.px_rules.specs.Operators.{is_minus, prefix_type, group_of, group_type}
 use Rattle.px_rules.specs.Names.{find}
-use Rattle.px_rules.specs.Members.{base_type, class_type, no_class, names_no_class, method_of}
+use Rattle.px_rules.specs.Members.{base_type, class_type, names_no_class, method_of}
 use Rattle.px_rules.specs.Scopes.{variable_type}
 use Rattle.px_rules.specs.Slots.{slot_of}
-use Rattle.px_rules.specs.Facts.{typed_only, variable_fact, field_fact, method_fact, new_of, new_fact, new_array_fact, database_fact, verb_fact, field_at, field_in, field_place, method_at, method_in, method_place, numbered_method, rows_method, text_method, local_or}
+use Rattle.px_rules.specs.Facts.{typed_only, variable_fact, field_fact, method_fact, new_of, new_fact, new_array_fact, database_fact, verb_fact, field_at, field_place, method_at, method_place, numbered_method, rows_method, text_method, local_or}
 use Rattle.px_rules.specs.Database.{Written, Bare, Literal, Other, written, asked, literal_in, asked_operation, text_notes, first_written as text_written}
-use Rattle.px_rules.specs.Expressions.{Typed, typed, of_type, number, text, misfit, variable, bracketed, field, index, argument_fits, arguments, wanted, call, types_of, database_notes, database_call, new_object, new_array, prefixed, binary, method_notes}
-use Rattle.px_rules.specs.Known.{Known, known, fact_only, leaf, all_nodes, argument_nodes, text_known, name_known, group_known, field_known, index_known, own_call, call_known, operation_in, database_node, array_known, operator_known}
-use Rattle.px_rules.proofs.Forms.{typed_by_form, typed_number, typed_text, typed_true, typed_false, typed_null, typed_this, typed_name, typed_group, typed_field, typed_index, typed_own_call, typed_call, typed_database_call, typed_new, typed_new_array, typed_prefix, typed_binary, text_is_read, no_text}
+use Rattle.px_rules.specs.Expressions.{Typed, typed, of_type, number, misfit, variable, bracketed, field, index, argument_fits, arguments, wanted, call, types_of, database_notes, database_call, new_object, new_array, prefixed, binary, method_notes}
+use Rattle.px_rules.specs.Known.{Known, known, fact_only, leaf, all_nodes, argument_nodes, name_known, group_known, field_known, index_known, own_call, call_known, operation_in, database_node, array_known, operator_known}
+use Rattle.px_rules.proofs.Forms.{typed_by_form, typed_number, typed_true, typed_false, typed_null, typed_this, typed_name, typed_group, typed_field, typed_index, typed_own_call, typed_call, typed_database_call, typed_new, typed_new_array, typed_prefix, typed_binary, text_is_read, no_text}
 use Rattle.px_rules.proofs.KnownForms.{known_by_form, known_number, known_text, known_true, known_false, known_null, known_this, known_name, known_group, known_field, known_index, known_own_call, known_call, database_call as database_known, known_database_call, known_new, known_new_array, known_prefix, known_binary}
 use Rattle.px_typed_code.specs.Laws.{IsKnownClass, IsKnownElement}
-use Rattle.px_semantics.specs.Facts.{element_number}
 use Rattle.px_soundness.specs.Numbered.{IsExpr, AreExprs, IsElement}
 use Rattle.px_soundness.proofs.Clean.{Clean, clean_left, clean_right}
 use Rattle.px_soundness.proofs.Expressions.{found_class}

@@ -1,9 +1,8 @@
 -- In a method without a breach all that is made is known, and each slot has a type of values.
-use Rattle.std.proofs.Common.{◌≡◌, ℕ, ◌+◌, Bool, true, false, List, [], ◌∷◌, ◌++◌, map, length, drop, Option, Some, None, slice_get, zero, suc, refl, sym, ap, ◌∙◌, subst}
+use Rattle.std.proofs.Common.{◌≡◌, ℕ, ◌+◌, Bool, true, false, List, [], ◌∷◌, ◌++◌, map, length, drop, Some, None, slice_get, zero, suc, refl, sym, ap, ◌∙◌, subst}
 use Rattle.px_tree.specs.declared.Name.{Name}
-use Rattle.px_tree.specs.declared.TypeName.{TypeName}
 use Rattle.px_tree.specs.declared.Expr.{Expr}
-use Rattle.px_tree.specs.declared.ExprForm.{ExprForm, ExprForm-F, out-ExprForm, roll-ExprForm}
+use Rattle.px_tree.specs.declared.ExprForm.{ExprForm, ExprForm-F, roll-ExprForm}
 use Rattle.px_tree.specs.declared.ExprForm.TheVariants as e
 use Rattle.px_tree.specs.declared.ExprForm.TheVariants.{rolls-Number, rolls-Str, rolls-True, rolls-False, rolls-Null, rolls-This, rolls-Name, rolls-Group, rolls-Field, rolls-Index, rolls-Call, rolls-NewObject, rolls-NewArray, rolls-Prefix, rolls-Binary}
 use Rattle.px_tree.specs.declared.ExprForm.TheOpen.{ExprForm-F as f}
@@ -16,16 +15,12 @@ use Rattle.px_facts.specs.declared.types.Ty.{Ty}
 use Rattle.px_facts.specs.declared.checked.Fact.{Fact}
 use Rattle.px_facts.specs.declared.checked.Facts.{Facts}
 use Rattle.px_facts.specs.declared.checked.MethodFact.{MethodFact}
-use Rattle.px_facts.specs.Types.{is_array}
 use Rattle.px_rules.specs.declared.node.Node.{Node}
-use Rattle.px_rules.specs.declared.table.Table.{Table}
 use Rattle.px_rules.specs.declared.classes.Classes.{Classes}
 use Rattle.px_rules.specs.declared.context.Context.{Context}
 use Rattle.px_rules.specs.declared.home.Home.{Home}
 use Rattle.px_rules.specs.declared.locals.Locals.{Locals}
 use Rattle.px_rules.specs.declared.scope.Scope.{Scope}
-use Rattle.px_rules.specs.declared.scope.Slot.{Slot}
-use Rattle.px_rules.specs.Breaches.{Note, breach_if}
 use Rattle.px_rules.specs.Names.{find}
 use Rattle.px_rules.specs.Members.{type_of, names_no_class, result_type, class_members}
 use Rattle.px_rules.specs.Scopes.{no_locals, with_local, local_notes, local_type}
@@ -39,7 +34,7 @@ use Rattle.px_rules.specs.Programs.{class_bodies, bodies}
 use Rattle.px_rules.specs.Known.{known, fact_only, all_nodes}
 use Rattle.px_rules.specs.Told as telling
 use Rattle.px_rules.specs.Told.{Told, told, in_order, block_told, local_told, assign_told, change_told, value_told, return_told, if_told, while_told, for_told}
-use Rattle.px_rules.specs.Bodies.{with_params, told_body, method_known, class_found, all_found, next_class}
+use Rattle.px_rules.specs.Bodies.{with_params, told_body, method_known, class_found, all_found}
 use Rattle.px_rules.specs.Checked.{class_known}
 use Rattle.px_rules.proofs.Forms.{typed_by_form, typed_field}
 use Rattle.px_rules.proofs.StatementForms.{judged_by_form, judged_block, judged_empty, judged_local, judged_assign, judged_compound, judged_up, judged_down, judged_call, judged_if, judged_while, judged_for, judged_return, judged_print}
