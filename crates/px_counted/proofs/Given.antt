@@ -13,7 +13,7 @@ use Rattle.px_counts.specs.Marks as mark
 use Rattle.px_counted.specs.Numbers.{all_of, one_if, in_parts, with_own, given}
 use Rattle.px_counted.proofs.Counts.{marks}
 
-pub gives : Counter → Expr → ℕ
+unfoldable pub gives : Counter → Expr → ℕ
 gives (Begun i) e = given i e
 gives (Completed i) e = given i e
 gives (Entered m) e = 0

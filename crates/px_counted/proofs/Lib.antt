@@ -15,3 +15,13 @@ pub mod Expressions
 pub mod Invoked
 pub mod Prefixes
 pub mod AllExpressions
+pub mod GivenNumbers
+pub mod GivenStatements
+pub mod Dones
+pub mod Loops
+pub mod Puts
+pub mod Statements
+pub mod Methods
+pub mod Frames
+pub mod Nodes
+pub mod Whole

@@ -27,11 +27,11 @@ get_behind : {A : Type 0} (xs : List A) (x : A) → slice_get (xs ++ x ∷ []) (
 get_behind [] x = refl
 get_behind (y ∷ xs) x = get_behind xs x
 
-numbered_front : {A : Type 0} (xs ys : List A) (k : ℕ) (x : A) → numbered xs k ≡ Some x → numbered (xs ++ ys) k ≡ Some x
+pub numbered_front : {A : Type 0} (xs ys : List A) (k : ℕ) (x : A) → numbered xs k ≡ Some x → numbered (xs ++ ys) k ≡ Some x
 numbered_front xs ys zero x h = absurd (cc h)
 numbered_front xs ys (suc i) x h = get_front xs ys i x h
 
-numbered_behind : {A : Type 0} (xs : List A) (k : ℕ) (x : A) → k ≡ length xs + 1 → numbered (xs ++ x ∷ []) k ≡ Some x
+pub numbered_behind : {A : Type 0} (xs : List A) (k : ℕ) (x : A) → k ≡ length xs + 1 → numbered (xs ++ x ∷ []) k ≡ Some x
 numbered_behind xs zero x h = absurd (omega (arith, h))
 numbered_behind xs (suc i) x h =
     let e : length xs ≡ i = omega (arith, h) in
@@ -139,7 +139,7 @@ module _ (Q W : Type 0) (k : ℕ) (counter : Counter) where
         subst (λ f. f ≤ from_node (length xs) + given) (sym s) m;
   }
 
-  from_more : (m d : ℕ) → from_node m ≤ from_node (m + d)
+  pub from_more : (m d : ℕ) → from_node m ≤ from_node (m + d)
   from_more m zero = let e : m + 0 ≡ m = omega (arith) in subst (λ x. from_node m ≤ from_node x) (sym e) (omega (arith))
   from_more m (suc d) =
       let e : m + suc d ≡ suc (m + d) = omega (arith) in

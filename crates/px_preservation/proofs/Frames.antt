@@ -39,23 +39,23 @@ use Rattle.px_preservation.proofs.Program.{same_default, IsMethod, there, no_met
 
 -- ---- the first slots
 
-same_slots : (types : List Static) (temps : List Ty) (values : List Value) (j : ℕ) → j < length types → slice_get (source.first_slots types values) j ≡ slice_get (with_first values (map first.default_of (map code_type types ++ temps))) j
+pub same_slots : (types : List Static) (temps : List Ty) (values : List Value) (j : ℕ) → j < length types → slice_get (source.first_slots types values) j ≡ slice_get (with_first values (map first.default_of (map code_type types ++ temps))) j
 same_slots [] temps values j h = absurd (omega (arith, h))
 same_slots (t ∷ types) temps [] zero h = ap Some (sym (same_default t))
 same_slots (t ∷ types) temps [] (suc j) h = same_slots types temps [] j (omega (arith, h))
 same_slots (t ∷ types) temps (v ∷ values) zero h = refl
 same_slots (t ∷ types) temps (v ∷ values) (suc j) h = same_slots types temps values j (omega (arith, h))
 
-length_first : (values : List Value) (slots : List Value) → length (with_first values slots) ≡ length slots
+pub length_first : (values : List Value) (slots : List Value) → length (with_first values slots) ≡ length slots
 length_first [] slots = refl
 length_first (v ∷ vs) [] = refl
 length_first (v ∷ vs) (x ∷ slots) = ap suc (length_first vs slots)
 
-length_map : {A B : Type 0} (f : A → B) (xs : List A) → length (map f xs) ≡ length xs
+pub length_map : {A B : Type 0} (f : A → B) (xs : List A) → length (map f xs) ≡ length xs
 length_map f [] = refl
 length_map f (x ∷ xs) = ap suc (length_map f xs)
 
-types_are : (fact : MethodFact) (rest : List Static) → fact.slots ≡ static.Object fact.class ∷ rest → first_types fact ≡ map code_type fact.slots
+pub types_are : (fact : MethodFact) (rest : List Static) → fact.slots ≡ static.Object fact.class ∷ rest → first_types fact ≡ map code_type fact.slots
 types_are fact rest h = ap (λ (ts : List Static). code_type (static.Object fact.class) ∷ map code_type (drop 1 ts)) h ∙ sym (ap (map code_type) h)
 
 module _ (Q W : Type 0) (ask : Ask Q W) (P : Checked) where
@@ -92,7 +92,7 @@ module _ (Q W : Type 0) (ask : Ask Q W) (P : Checked) where
     body_end m true d o c h = meets_at _ _ _ SameEnd SameLeft (ap leaves_frame (run_append Q W code ask calls d.trees (Do (length d.nodes + 1) (w.Return None) ∷ []) c)) (return_end (length d.nodes + 1) o (body_run code ask calls d.trees c) h)
     body_end m false d o c h = frame_end o (body_run code ask calls d.trees c) h
 
-    ended_slots : (m : Method) (b : Bool) (d : Draft) → (ended P m b d).slots ≡ d.slots
+    pub ended_slots : (m : Method) (b : Bool) (d : Draft) → (ended P m b d).slots ≡ d.slots
     ended_slots m true d = refl
     ended_slots m false d = refl
 
