@@ -6,35 +6,30 @@ use Rattle.px_value.specs.declared.value.Value.{Value}
 use Rattle.px_value.specs.declared.value.Value.TheVariants.{Ref}
 use Rattle.px_value.specs.declared.object.Object.{Object}
 use Rattle.px_value.specs.Outcome.{Outcome, Gives, Throws, Asks}
-use Rattle.px_tree.specs.declared.Expr.{Expr}
 use Rattle.px_tree.specs.declared.Method.{Method}
-use Rattle.px_facts.specs.declared.types.Ty.{Ty as Static}
 use Rattle.px_facts.specs.declared.checked.MethodFact.{MethodFact}
 use Rattle.px_facts.specs.declared.checked.Checked.{Checked}
 use Rattle.px_effects.specs.Run.{Shared, Ask}
 use Rattle.px_semantics.specs.Facts.{by_number}
-use Rattle.px_semantics.specs.Expressions.{Calls as SourceCalls}
 use Rattle.px_semantics.specs.Calls as source
 use Rattle.px_semantics.specs.Program.{methods_of, source_from}
 use Rattle.px_semantics.specs.Entry.{all_frames}
-use Rattle.px_semantics.specs.Typing.{IsTypedExpr, IsTypedMethod, IsTyped}
+use Rattle.px_semantics.specs.Typing.{IsTypedMethod, IsTyped}
 use Rattle.px_normal.specs.declared.node.Node.{Node}
 use Rattle.px_normal.specs.declared.node.NodeKind.TheVariants.{Normal}
 use Rattle.px_normal.specs.declared.node.Counter.{Counter}
 use Rattle.px_normal.specs.declared.node.Counter.TheVariants.{Begun, Completed, Entered, ReachedEnd}
-use Rattle.px_normal.specs.declared.code.Code.{Code}
 use Rattle.px_normal.specs.First.{numbered}
 use Rattle.px_normal.specs.Run.{Traced, untraced}
-use Rattle.px_normal.specs.CodeRun.{Calls, calls_in, code_run}
+use Rattle.px_normal.specs.CodeRun.{calls_in, code_run}
 use Rattle.px_lowering.specs.declared.draft.Draft.{Draft}
 use Rattle.px_lowering.specs.Types.{code_type}
 use Rattle.px_lowering.specs.Programs.{first_types, begun, lowered_methods, lowered}
 use Rattle.px_counts.specs.Marks as mark
 use Rattle.px_counts.specs.Marks.{Marked, times, unmarked}
 use Rattle.px_counts.specs.Runs.{calls_with_marks, exec_with_marks}
-use Rattle.px_counts.proofs.Unmarked.{SameThere, calls_alike, exec_unmarked}
+use Rattle.px_counts.proofs.Unmarked.{calls_alike, exec_unmarked}
 use Rattle.px_preservation.specs.Laws.{AreKnown}
-use Rattle.px_preservation.proofs.Agree.{CallsMeet}
 use Rattle.px_preservation.proofs.Program.{SameProgram, same_program}
 use Rattle.px_preservation.proofs.Expressions.{lowers_expr}
 use Rattle.px_preservation.proofs.Statements.{lowers_statement}
@@ -46,22 +41,17 @@ use Rattle.px_counted.proofs.Counts.{marks}
 use Rattle.px_counted.proofs.Steps.{CountedThere, CallsCount}
 use Rattle.px_counted.proofs.Pieces.{from_node, from_more, IsKnown}
 use Rattle.px_counted.proofs.GivenStatements.{does_give}
-use Rattle.px_counted.proofs.Expressions.{Counts}
+use Rattle.px_counted.proofs.AllExpressions.{counts_expr}
 use Rattle.px_counted.proofs.Statements.{counts_statement}
 use Rattle.px_counted.proofs.Methods.{IsNormal, given_from, MethodGrows, method_grows, AllGrow, methods_grow, method_at, IsCounted, no_method, given_begun, given_completed, given_entered, given_ends}
 use Rattle.px_counted.proofs.Frames.{CountsBodies, calls_count}
 use Rattle.px_counted.proofs.Nodes.{methods_back}
 
--- typed expressions leave nothing behind
-abbrev pub CountsExpressions : (Q W : Type 0) → Type 0
-CountsExpressions Q W = (ask : Ask Q W) (never : NeverThrows Q W ask) (P : Checked) (code : Code) (source_calls : SourceCalls Q W) (calls : Calls Q W) (static : List Static) (k : ℕ) (counter : Counter) (met : CallsMeet Q W ask P code source_calls calls (length static)) (same : SameProgram P code) (marked_calls : SourceCalls Q (Marked W)) (alike : (method : ℕ) (values : List Value) → SameThere Q W (Option Value) (marked_calls method values) (source_calls method values)) (count : CallsCount Q W ask code calls k counter never marked_calls)
-    (x : Expr) → IsTypedExpr P.facts static x → Counts Q W ask never P code source_calls calls (length static) k counter met same marked_calls alike x
-
 within : {A : Type 0} (xs : List A) (k : ℕ) (x : A) → numbered xs k ≡ Some x → (i : ℕ) × (k ≡ suc i) × (i < length xs)
 within xs zero x h = absurd (cc h)
 within xs (suc i) x h = (i, refl, slice_get_within xs i x h)
 
-module _ (Q W : Type 0) (counts_expr : CountsExpressions Q W) (ask : Ask Q W) (never : NeverThrows Q W ask) (P : Checked) (typed : IsTyped (source_from P)) (are_known : AreKnown P.program.classes P.facts.classes) (are_numbered : AreNumbered P) (k : ℕ) (counter : Counter) (node : Node) (at : numbered (lowered P).nodes k ≡ Some node) (kind : node.kind ≡ Normal) (is : node.counter ≡ Some counter) where
+module _ (Q W : Type 0) (ask : Ask Q W) (never : NeverThrows Q W ask) (P : Checked) (typed : IsTyped (source_from P)) (are_known : AreKnown P.program.classes P.facts.classes) (are_numbered : AreNumbered P) (k : ℕ) (counter : Counter) (node : Node) (at : numbered (lowered P).nodes k ≡ Some node) (kind : node.kind ≡ Normal) (is : node.counter ≡ Some counter) where
   abbrev methods : List Method
   methods = methods_of P.program.classes
 
@@ -98,7 +88,7 @@ module _ (Q W : Type 0) (counts_expr : CountsExpressions Q W) (ask : Ask Q W) (n
   bodies source_calls calls met marked_calls alike count m fact t o le few =
       counts_statement Q W ask never P (lowered P) source_calls calls fact.slots fact.result k counter met same marked_calls alike count
       (lowers_expr Q W ask P (lowered P) source_calls calls (length fact.slots) met same fact.slots refl)
-      (counts_expr ask never P (lowered P) source_calls calls fact.slots k counter met same marked_calls alike count)
+      (counts_expr Q W ask never P (lowered P) source_calls calls (length fact.slots) k counter met same marked_calls alike count fact.slots refl)
       t.completes m.body t.body o le few
 
   -- with no frame there is no call
@@ -206,5 +196,5 @@ module _ (Q W : Type 0) (counts_expr : CountsExpressions Q W) (ask : Ask Q W) (n
       (counted method (Ref 0 ∷ args) _ _ refl refl) s g es eg
 
 -- each statement of the code runs as often as its counter tells
-pub counts_are_runs_if : (Q W : Type 0) → CountsExpressions Q W → CountsAreRuns Q W
-counts_are_runs_if Q W counts_expr P typed known numbers ask never heap world method args s g es eg number node c at kind counter = runs_as_counted Q W counts_expr ask never P typed known numbers number c node at kind counter heap world method args s g es eg
+pub counts_are_runs : (Q W : Type 0) → CountsAreRuns Q W
+counts_are_runs Q W P typed known numbers ask never heap world method args s g es eg number node c at kind counter = runs_as_counted Q W ask never P typed known numbers number c node at kind counter heap world method args s g es eg
