@@ -1,16 +1,15 @@
 -- How often a counter's number is given in each form, as an equation.
-use Rattle.std.proofs.Common.{◌≡◌, ℕ, ◌+◌, Bool, List, [], ◌∷◌, map, Option, Some, None, refl, sym, ap, ◌∙◌, arith}
+use Rattle.std.proofs.Common.{◌≡◌, ℕ, ◌+◌, Bool, List, [], ◌∷◌, map, Some, None, refl, ap, ◌∙◌, arith}
 use Rattle.px_tree.specs.declared.Sign.{Sign}
 use Rattle.px_tree.specs.declared.Base.{Base}
 use Rattle.px_tree.specs.declared.Name.{Name as NameData}
-use Rattle.px_tree.specs.declared.Expr.{Expr, fold_out-Expr}
-use Rattle.px_tree.specs.declared.ExprForm.{ExprForm, ExprForm-F, fold-ExprForm, fold-roll-ExprForm, roll-ExprForm, map-ExprForm}
-use Rattle.px_tree.specs.declared.ExprForm.TheVariants.{Number, rolls-Number, Str, rolls-Str, True, rolls-True, False, rolls-False, Null as NullForm, rolls-Null, This, rolls-This, Name, rolls-Name, Group, rolls-Group, Field, rolls-Field, Index, rolls-Index, Call, rolls-Call, NewObject, rolls-NewObject, NewArray, rolls-NewArray, Prefix, rolls-Prefix, Binary, rolls-Binary}
-use Rattle.px_tree.specs.declared.ExprForm.TheOpen.{ExprForm-F as f}
+use Rattle.px_tree.specs.declared.Expr.{Expr}
+use Rattle.px_tree.specs.declared.ExprForm.TheVariants.{Number, Str, True, False, Null as NullForm, This, Name, Group, Field, Index, Call, NewObject, NewArray, Prefix, Binary}
 use Rattle.px_normal.specs.declared.node.Counter.{Counter}
 use Rattle.px_normal.specs.declared.node.Counter.TheVariants.{Begun, Completed, Entered, ReachedEnd}
 use Rattle.px_counts.specs.Marks as mark
-use Rattle.px_counted.specs.Numbers.{all_of, one_if, in_parts, with_own, given}
+use Rattle.px_counted.specs.Numbers.{all_of, one_if, given}
+use Rattle.px_counted.proofs.GivenNumbers.{given_number, given_text, given_true, given_false, given_null, given_this, given_name, given_group, given_field, given_index, given_own_call, given_call, given_new_object, given_new_array, given_prefix, given_binary}
 use Rattle.px_counted.proofs.Counts.{marks}
 
 unfoldable pub gives : Counter → Expr → ℕ
@@ -22,10 +21,6 @@ gives (ReachedEnd m) e = 0
 abbrev pub gives_all : Counter → List Expr → ℕ
 gives_all c [] = 0
 gives_all c (x ∷ xs) = gives c x + gives_all c xs
-
-abbrev pub gives_if : Counter → Option Expr → ℕ
-gives_if c None = 0
-gives_if c (Some x) = gives c x
 
 abbrev pub own_by : Counter → ℕ → ℕ
 own_by (Begun i) id = one_if i id
@@ -39,16 +34,6 @@ own_is Q W k (Begun i) id = omega (arith)
 own_is Q W k (Completed i) id = omega (arith)
 own_is Q W k (Entered m) id = refl
 own_is Q W k (ReachedEnd m) id = refl
-
-module _ (i : ℕ) where
-  form_given : ExprForm → ℕ
-  form_given x = fold-ExprForm ℕ ℕ in_parts (with_own i) x
-
-  at_form : (e : Expr) (x : ExprForm-F ExprForm Expr) → e.form ≡ roll-ExprForm x → given i e ≡ one_if i e.id + in_parts (map-ExprForm ExprForm Expr ℕ ℕ (fold-ExprForm ℕ ℕ in_parts (with_own i)) (given i) x)
-  unfolding given
-  at_form e x h =
-      fold_out-Expr ℕ ℕ in_parts (with_own i) e ∙ ap (λ (q : ExprForm). one_if i e.id + fold-ExprForm ℕ ℕ in_parts (with_own i) q) h
-      ∙ ap (λ (q : ℕ). one_if i e.id + q) (fold-roll-ExprForm ℕ ℕ in_parts (with_own i) x)
 
 all_given : (i : ℕ) (xs : List Expr) → all_of (map (given i) xs) ≡ gives_all (Begun i) xs
 unfolding gives
@@ -72,112 +57,112 @@ all_none_end m (x ∷ xs) = all_none_end m xs ∙ omega (arith)
 
 pub gives_number : (c : Counter) (e : Expr) (digits : List ℕ) (long : Bool) → e.form ≡ Number digits long → gives c e ≡ own_by c e.id + 0
 unfolding gives
-gives_number (Begun i) e digits long h = at_form i e (f.Number digits long) (h ∙ sym (rolls-Number digits long))
-gives_number (Completed i) e digits long h = at_form i e (f.Number digits long) (h ∙ sym (rolls-Number digits long))
+gives_number (Begun i) e digits long h = given_number i e digits long h
+gives_number (Completed i) e digits long h = given_number i e digits long h
 gives_number (Entered m) e digits long h = refl
 gives_number (ReachedEnd m) e digits long h = refl
 
 pub gives_text : (c : Counter) (e : Expr) (bytes : List ℕ) → e.form ≡ Str bytes → gives c e ≡ own_by c e.id + 0
 unfolding gives
-gives_text (Begun i) e bytes h = at_form i e (f.Str bytes) (h ∙ sym (rolls-Str bytes))
-gives_text (Completed i) e bytes h = at_form i e (f.Str bytes) (h ∙ sym (rolls-Str bytes))
+gives_text (Begun i) e bytes h = given_text i e bytes h
+gives_text (Completed i) e bytes h = given_text i e bytes h
 gives_text (Entered m) e bytes h = refl
 gives_text (ReachedEnd m) e bytes h = refl
 
 pub gives_true : (c : Counter) (e : Expr) → e.form ≡ True → gives c e ≡ own_by c e.id + 0
 unfolding gives
-gives_true (Begun i) e h = at_form i e (f.True) (h ∙ sym (rolls-True))
-gives_true (Completed i) e h = at_form i e (f.True) (h ∙ sym (rolls-True))
+gives_true (Begun i) e h = given_true i e h
+gives_true (Completed i) e h = given_true i e h
 gives_true (Entered m) e h = refl
 gives_true (ReachedEnd m) e h = refl
 
 pub gives_false : (c : Counter) (e : Expr) → e.form ≡ False → gives c e ≡ own_by c e.id + 0
 unfolding gives
-gives_false (Begun i) e h = at_form i e (f.False) (h ∙ sym (rolls-False))
-gives_false (Completed i) e h = at_form i e (f.False) (h ∙ sym (rolls-False))
+gives_false (Begun i) e h = given_false i e h
+gives_false (Completed i) e h = given_false i e h
 gives_false (Entered m) e h = refl
 gives_false (ReachedEnd m) e h = refl
 
 pub gives_null : (c : Counter) (e : Expr) → e.form ≡ NullForm → gives c e ≡ own_by c e.id + 0
 unfolding gives
-gives_null (Begun i) e h = at_form i e (f.Null) (h ∙ sym (rolls-Null))
-gives_null (Completed i) e h = at_form i e (f.Null) (h ∙ sym (rolls-Null))
+gives_null (Begun i) e h = given_null i e h
+gives_null (Completed i) e h = given_null i e h
 gives_null (Entered m) e h = refl
 gives_null (ReachedEnd m) e h = refl
 
 pub gives_this : (c : Counter) (e : Expr) → e.form ≡ This → gives c e ≡ own_by c e.id + 0
 unfolding gives
-gives_this (Begun i) e h = at_form i e (f.This) (h ∙ sym (rolls-This))
-gives_this (Completed i) e h = at_form i e (f.This) (h ∙ sym (rolls-This))
+gives_this (Begun i) e h = given_this i e h
+gives_this (Completed i) e h = given_this i e h
 gives_this (Entered m) e h = refl
 gives_this (ReachedEnd m) e h = refl
 
 pub gives_name : (c : Counter) (e : Expr) (n : NameData) → e.form ≡ Name n → gives c e ≡ own_by c e.id + 0
 unfolding gives
-gives_name (Begun i) e n h = at_form i e (f.Name n) (h ∙ sym (rolls-Name n))
-gives_name (Completed i) e n h = at_form i e (f.Name n) (h ∙ sym (rolls-Name n))
+gives_name (Begun i) e n h = given_name i e n h
+gives_name (Completed i) e n h = given_name i e n h
 gives_name (Entered m) e n h = refl
 gives_name (ReachedEnd m) e n h = refl
 
 pub gives_group : (c : Counter) (e : Expr) (x : Expr) → e.form ≡ Group x → gives c e ≡ own_by c e.id + gives c x
 unfolding gives
-gives_group (Begun i) e x h = at_form i e (f.Group x) (h ∙ sym (rolls-Group x))
-gives_group (Completed i) e x h = at_form i e (f.Group x) (h ∙ sym (rolls-Group x))
+gives_group (Begun i) e x h = given_group i e x h
+gives_group (Completed i) e x h = given_group i e x h
 gives_group (Entered m) e x h = refl
 gives_group (ReachedEnd m) e x h = refl
 
 pub gives_field : (c : Counter) (e : Expr) (x : Expr) (n : NameData) → e.form ≡ Field x n → gives c e ≡ own_by c e.id + gives c x
 unfolding gives
-gives_field (Begun i) e x n h = at_form i e (f.Field x n) (h ∙ sym (rolls-Field x n))
-gives_field (Completed i) e x n h = at_form i e (f.Field x n) (h ∙ sym (rolls-Field x n))
+gives_field (Begun i) e x n h = given_field i e x n h
+gives_field (Completed i) e x n h = given_field i e x n h
 gives_field (Entered m) e x n h = refl
 gives_field (ReachedEnd m) e x n h = refl
 
 pub gives_index : (c : Counter) (e : Expr) (x j : Expr) → e.form ≡ Index x j → gives c e ≡ own_by c e.id + (gives c x + gives c j)
 unfolding gives
-gives_index (Begun i) e x j h = at_form i e (f.Index x j) (h ∙ sym (rolls-Index x j))
-gives_index (Completed i) e x j h = at_form i e (f.Index x j) (h ∙ sym (rolls-Index x j))
+gives_index (Begun i) e x j h = given_index i e x j h
+gives_index (Completed i) e x j h = given_index i e x j h
 gives_index (Entered m) e x j h = refl
 gives_index (ReachedEnd m) e x j h = refl
 
 pub gives_call_own : (c : Counter) (e : Expr) (n : NameData) (args : List Expr) → e.form ≡ Call None n args → gives c e ≡ own_by c e.id + (0 + gives_all c args)
 unfolding gives
-gives_call_own (Begun i) e n args h = at_form i e (f.Call None n args) (h ∙ sym (rolls-Call None n args)) ∙ ap (λ (q : ℕ). one_if i e.id + (0 + q)) (all_given i args)
-gives_call_own (Completed i) e n args h = at_form i e (f.Call None n args) (h ∙ sym (rolls-Call None n args)) ∙ ap (λ (q : ℕ). one_if i e.id + (0 + q)) (all_completed i args)
+gives_call_own (Begun i) e n args h = given_own_call i e n args h ∙ ap (λ (q : ℕ). one_if i e.id + (0 + q)) (all_given i args)
+gives_call_own (Completed i) e n args h = given_own_call i e n args h ∙ ap (λ (q : ℕ). one_if i e.id + (0 + q)) (all_completed i args)
 gives_call_own (Entered m) e n args h = all_none m args ∙ omega (arith)
 gives_call_own (ReachedEnd m) e n args h = all_none_end m args ∙ omega (arith)
 
 pub gives_call : (c : Counter) (e : Expr) (of : Expr) (n : NameData) (args : List Expr) → e.form ≡ Call (Some of) n args → gives c e ≡ own_by c e.id + (gives c of + gives_all c args)
 unfolding gives
-gives_call (Begun i) e of n args h = at_form i e (f.Call (Some of) n args) (h ∙ sym (rolls-Call (Some of) n args)) ∙ ap (λ (q : ℕ). one_if i e.id + (given i of + q)) (all_given i args)
-gives_call (Completed i) e of n args h = at_form i e (f.Call (Some of) n args) (h ∙ sym (rolls-Call (Some of) n args)) ∙ ap (λ (q : ℕ). one_if i e.id + (given i of + q)) (all_completed i args)
+gives_call (Begun i) e of n args h = given_call i e of n args h ∙ ap (λ (q : ℕ). one_if i e.id + (given i of + q)) (all_given i args)
+gives_call (Completed i) e of n args h = given_call i e of n args h ∙ ap (λ (q : ℕ). one_if i e.id + (given i of + q)) (all_completed i args)
 gives_call (Entered m) e of n args h = all_none m args ∙ omega (arith)
 gives_call (ReachedEnd m) e of n args h = all_none_end m args ∙ omega (arith)
 
 pub gives_new_object : (c : Counter) (e : Expr) (n : NameData) → e.form ≡ NewObject n → gives c e ≡ own_by c e.id + 0
 unfolding gives
-gives_new_object (Begun i) e n h = at_form i e (f.NewObject n) (h ∙ sym (rolls-NewObject n))
-gives_new_object (Completed i) e n h = at_form i e (f.NewObject n) (h ∙ sym (rolls-NewObject n))
+gives_new_object (Begun i) e n h = given_new_object i e n h
+gives_new_object (Completed i) e n h = given_new_object i e n h
 gives_new_object (Entered m) e n h = refl
 gives_new_object (ReachedEnd m) e n h = refl
 
 pub gives_new_array : (c : Counter) (e : Expr) (b : Base) (x : Expr) → e.form ≡ NewArray b x → gives c e ≡ own_by c e.id + gives c x
 unfolding gives
-gives_new_array (Begun i) e b x h = at_form i e (f.NewArray b x) (h ∙ sym (rolls-NewArray b x))
-gives_new_array (Completed i) e b x h = at_form i e (f.NewArray b x) (h ∙ sym (rolls-NewArray b x))
+gives_new_array (Begun i) e b x h = given_new_array i e x b h
+gives_new_array (Completed i) e b x h = given_new_array i e x b h
 gives_new_array (Entered m) e b x h = refl
 gives_new_array (ReachedEnd m) e b x h = refl
 
 pub gives_prefix : (c : Counter) (e : Expr) (s : Sign) (x : Expr) → e.form ≡ Prefix s x → gives c e ≡ own_by c e.id + gives c x
 unfolding gives
-gives_prefix (Begun i) e s x h = at_form i e (f.Prefix s x) (h ∙ sym (rolls-Prefix s x))
-gives_prefix (Completed i) e s x h = at_form i e (f.Prefix s x) (h ∙ sym (rolls-Prefix s x))
+gives_prefix (Begun i) e s x h = given_prefix i e x s h
+gives_prefix (Completed i) e s x h = given_prefix i e x s h
 gives_prefix (Entered m) e s x h = refl
 gives_prefix (ReachedEnd m) e s x h = refl
 
 pub gives_binary : (c : Counter) (e : Expr) (s : Sign) (at : ℕ) (l r : Expr) → e.form ≡ Binary s at l r → gives c e ≡ own_by c e.id + (gives c l + gives c r)
 unfolding gives
-gives_binary (Begun i) e s at l r h = at_form i e (f.Binary s at l r) (h ∙ sym (rolls-Binary s at l r))
-gives_binary (Completed i) e s at l r h = at_form i e (f.Binary s at l r) (h ∙ sym (rolls-Binary s at l r))
+gives_binary (Begun i) e s at l r h = given_binary i e l r s at h
+gives_binary (Completed i) e s at l r h = given_binary i e l r s at h
 gives_binary (Entered m) e s at l r h = refl
 gives_binary (ReachedEnd m) e s at l r h = refl

@@ -62,10 +62,6 @@ module _ (Q W : Type 0) (k : ℕ) (counter : Counter) where
   pub one_hit : (n : ℕ) → hits Q W k counter n ≤ 1
   one_hit n = few_if (nat_eq k n)
 
-  zero_or : (b : Bool) → one_if b ≡ 0 → b ≡ false
-  zero_or true h = absurd (omega (arith, h))
-  zero_or false h = refl
-
   none_before : (n : ℕ) → n < k → from_node n ≡ 0
   none_before zero h = refl
   none_before (suc n) h =
