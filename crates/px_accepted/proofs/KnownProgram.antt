@@ -27,7 +27,7 @@ use Rattle.px_semantics.specs.Program.{methods_of}
 use Rattle.px_lowering.specs.declared.allocations.Allocation.{Allocation}
 use Rattle.px_lowering.specs.Allocations.{kind_of}
 use Rattle.px_lowering.specs.Programs.{allocations, is_public, is_entry}
-use Rattle.px_typed_code.specs.Uses.{is_value, is_result}
+use Rattle.px_typed_code.specs.Values.{is_value, is_result}
 use Rattle.px_typed_code.specs.Laws.{site_of, IsKnownClass, IsKnownKind, ArePublic}
 use Rattle.px_soundness.specs.Numbered.{AreClasses}
 use Rattle.px_soundness.proofs.Clean.{Clean, clean_left, clean_right, and_left, and_right, some_is}
