@@ -1,5 +1,4 @@
 pub mod Known
-pub mod Given
 pub mod Numbered
 pub mod KnownTypes
 pub mod Written

@@ -1,6 +1,6 @@
 //! What holds of the code of accepted programs.
 
-ghost use Rattle.px_accepted.specs.Laws.{AcceptedKeepsMeaning, AcceptedIsNumbered};
+ghost use Rattle.px_accepted.specs.Laws.{AcceptedKeepsMeaning, AcceptedIsNumbered, AcceptedCountsAreRuns};
 ghost use Rattle.px_accepted.specs.Laws.{AcceptedCodeIsTyped, AcceptedEntriesAreMethods, AcceptedNodesAreInOrder};
 
 /// The code of an accepted program does what the program does.
@@ -27,4 +27,9 @@ pub fn accepted_entries_are_methods()
 /// The nodes of an accepted program are numbered from 1 in the order of its code.
 pub fn accepted_nodes_are_in_order()
     ensures { AcceptedNodesAreInOrder }
+{}
+
+/// Each statement of the code of an accepted program runs as often as its counter tells.
+pub fn accepted_counts_are_runs<Q, W>()
+    ensures { AcceptedCountsAreRuns Q W }
 {}
