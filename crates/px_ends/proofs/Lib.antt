@@ -1,0 +1,15 @@
+pub mod Places
+pub mod CellSteps
+pub mod HeapSteps
+pub mod Acts
+pub mod StackCrossing
+pub mod StackSteps
+pub mod Shared
+pub mod Crossing
+pub mod Steps
+pub mod RunsAgree
+pub mod Laws
+pub mod CallsAgree
+pub mod SendsGood
+pub mod PlansGood
+pub mod RollBack

@@ -1,0 +1,95 @@
+//! What holds of two ends that exchange only messages, as theorems about their definitions.
+ghost use Rattle.px_ends.specs.Law.{StepAgrees, AnswerAgrees, BlockAgrees, ReadsCurrent, CrossAgrees, PairStepAgrees, PairAnswerAgrees, RunAgrees};
+ghost use Rattle.px_ends.specs.Calls.{NewRests, BeginAgrees, CallAgrees, SessionAgrees};
+ghost use Rattle.px_ends.specs.Undo.{RollsBack, RunsRollBack};
+ghost use Rattle.px_ends.specs.Sends.{PlacedIsGood, AnsweredIsGood, PlansAreGood, CutIsPlaced};
+
+/// A statement at the end with control does what it does on the one machine.
+pub fn step_agrees()
+    ensures { StepAgrees }
+{}
+
+/// A statement that hears what is said to its question does so too.
+pub fn answer_agrees()
+    ensures { AnswerAgrees }
+{}
+
+/// A block with its exit does so too: branches, calls and returns.
+pub fn block_agrees()
+    ensures { BlockAgrees }
+{}
+
+/// What a side reads of what it keeps is the value of the one heap.
+pub fn reads_current()
+    ensures { ReadsCurrent }
+{}
+
+/// The message of the end with control is the one machine's, and makes the other end the one with control.
+pub fn cross_agrees()
+    ensures { CrossAgrees }
+{}
+
+/// A block at the end where it is, after a crossing if it is at the other end.
+pub fn pair_step_agrees<Q, W>()
+    ensures { PairStepAgrees Q W }
+{}
+
+/// What is said to the operation that waits.
+pub fn pair_answer_agrees<Q, W>()
+    ensures { PairAnswerAgrees Q W }
+{}
+
+/// A run of any number of blocks in any world stops at the same operation, or ends alike, and the same happened in it.
+pub fn run_agrees<Q, W>()
+    ensures { RunAgrees Q W }
+{}
+
+/// Two ends with one heap are at rest.
+pub fn new_rests()
+    ensures { NewRests }
+{}
+
+/// A call begins at two ends at rest as on the one heap.
+pub fn begin_agrees<W>()
+    ensures { BeginAgrees W }
+{}
+
+/// A call at two ends at rest does what it does on the one heap, and after its commit both are at rest.
+pub fn call_agrees<Q, W>()
+    ensures { CallAgrees Q W }
+{}
+
+/// The undo list leads back to the heap of the last close.
+pub fn rolls_back()
+    ensures { RollsBack }
+{}
+
+/// Wherever a run stops, both ends can roll back to the heaps with which it began.
+pub fn runs_roll_back<Q, W>()
+    ensures { RunsRollBack Q W }
+{}
+
+/// A word whose side keeps what it may read, and whose send names what it may write, is as a run asks, if its receiver leads where it may.
+pub fn placed_is_good()
+    ensures { PlacedIsGood }
+{}
+
+/// So is one that hears what is said to its question.
+pub fn answered_is_good()
+    ensures { AnsweredIsGood }
+{}
+
+/// So is each run of a plan.
+pub fn plans_are_good<Q, W>()
+    ensures { PlansAreGood Q W }
+{}
+
+/// Blocks keep and send what their code, placed, keeps and sends.
+pub fn cut_is_placed()
+    ensures { CutIsPlaced }
+{}
+
+/// So do all calls of a session, of which those that don't end are undone.
+pub fn session_agrees<Q, W>()
+    ensures { SessionAgrees Q W }
+{}
