@@ -3,6 +3,7 @@ ghost use Rattle.px_ends.specs.Law.{StepAgrees, AnswerAgrees, BlockAgrees, Reads
 ghost use Rattle.px_ends.specs.Calls.{NewRests, BeginAgrees, CallAgrees, SessionAgrees};
 ghost use Rattle.px_ends.specs.Undo.{RollsBack, RunsRollBack};
 ghost use Rattle.px_ends.specs.Sends.{PlacedIsGood, AnsweredIsGood, PlansAreGood, CutIsPlaced};
+ghost use Rattle.px_ends.specs.Fits.{SoundPlansAreGood, EntryCallsAreGood, SessionsAreServed};
 
 /// A statement at the end with control does what it does on the one machine.
 pub fn step_agrees()
@@ -82,6 +83,21 @@ pub fn answered_is_good()
 /// So is each run of a plan.
 pub fn plans_are_good<Q, W>()
     ensures { PlansAreGood Q W }
+{}
+
+/// Every run of a plan that points-to covers, which keeps and sends by it, meets what a run must meet.
+pub fn sound_plans_are_good<Q, W>()
+    ensures { SoundPlansAreGood Q W }
+{}
+
+/// So does every call of an entry on a heap that fits.
+pub fn entry_calls_are_good<Q, W>()
+    ensures { EntryCallsAreGood Q W }
+{}
+
+/// All calls of a session of such a plan leave both ends at rest with the one heap, which fits again.
+pub fn sessions_are_served<Q, W>()
+    ensures { SessionsAreServed Q W }
 {}
 
 /// Blocks keep and send what their code, placed, keeps and sends.
