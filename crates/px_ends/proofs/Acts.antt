@@ -59,7 +59,7 @@ head_of x y xs ys e = cc
 tail_of : (x y : Header) (xs ys : List Header) → x ∷ xs ≡ y ∷ ys → xs ≡ ys
 tail_of x y xs ys e = cc
 
-same_counted : (a b : List Object) → headers a ≡ headers b → heap_counted a ≡ heap_counted b
+pub same_counted : (a b : List Object) → headers a ≡ headers b → heap_counted a ≡ heap_counted b
 same_counted [] [] e = refl
 same_counted [] (y ∷ ys) e = cc
 same_counted (x ∷ xs) [] e = cc

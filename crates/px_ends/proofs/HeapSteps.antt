@@ -162,7 +162,7 @@ object_at (x ∷ xs) zero h e = (x, refl, same e)
 object_at (x ∷ xs) (suc o) h e = object_at xs o h e
 
 -- an object that far lacks has as many cells as its header tells first
-new_lengths : (plan : Plan) (side : Side) (known : ℕ) (marks : List Cell) (near far one : List Object) → Heaps plan side known marks near far one → (o : ℕ) (h : Header) → slice_get (drop known (headers one)) o ≡ Some h → length (firsts_of plan.code h) ≡ h.length
+pub new_lengths : (plan : Plan) (side : Side) (known : ℕ) (marks : List Cell) (near far one : List Object) → Heaps plan side known marks near far one → (o : ℕ) (h : Header) → slice_get (drop known (headers one)) o ≡ Some h → length (firsts_of plan.code h) ≡ h.length
 new_lengths plan side known marks near far one k o h e = lengths_same (firsts_of plan.code h) x.cells same ∙ ap (λ (z : Header). z.length) at.2
   where
     p : ℕ

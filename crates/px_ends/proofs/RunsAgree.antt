@@ -42,7 +42,7 @@ module _ (Q : Type 0) {W : Type 0} (plan : Plan) where
       done_alike p o (block_run plan p.block b p.near) (block_run plan o.block b o.machine) g
       (subst (λ n. BlocksAlike plan o.side p.far (block_run plan n b p.near) (block_run plan o.block b o.machine)) (sym g.block) (block_alike plan o.side p.far o.block b p.near o.machine g.agree good))
 
-  at_end : (o : One W) → block_at plan.blocks.blocks o.block ≡ None → is_last (pass plan o).machine.control ≡ true → (pass plan o).side ≡ App
+  pub at_end : (o : One W) → block_at plan.blocks.blocks o.block ≡ None → is_last (pass plan o).machine.control ≡ true → (pass plan o).side ≡ App
   at_end o none last =
       there_now plan o ∙ ap (λ (b : Option Block). side_of_block b o.machine.control o.side) none
       ∙ ap (λ z. end_side z o.side) (sym (pass_last plan o) ∙ last)

@@ -4,6 +4,9 @@ ghost use Rattle.px_ends.specs.Calls.{NewRests, BeginAgrees, CallAgrees, Session
 ghost use Rattle.px_ends.specs.Undo.{RollsBack, RunsRollBack};
 ghost use Rattle.px_ends.specs.Sends.{PlacedIsGood, AnsweredIsGood, PlansAreGood, CutIsPlaced};
 ghost use Rattle.px_ends.specs.Fits.{SoundPlansAreGood, EntryCallsAreGood, SessionsAreServed};
+ghost use Rattle.px_ends.specs.Merged.{MergedIsOne, MergedAtRest, RehomeRests};
+ghost use Rattle.px_ends.specs.Stale.{NothingStale, SessionNothingStale, NewIsFresh};
+ghost use Rattle.px_ends.specs.AsCode.{PairRunsAsCode, SoundCodeRuns, PlacedCodeRuns};
 
 /// A statement at the end with control does what it does on the one machine.
 pub fn step_agrees()
@@ -108,4 +111,49 @@ pub fn cut_is_placed()
 /// So do all calls of a session, of which those that don't end are undone.
 pub fn session_agrees<Q, W>()
     ensures { SessionAgrees Q W }
+{}
+
+/// A call at two ends at rest asks, replies, prints and leaves the heap that the run of the code gives.
+pub fn pair_runs_as_code<Q, W>()
+    ensures { PairRunsAsCode Q W }
+{}
+
+/// It does so, with no premise on any run, where the plan is sound by points-to.
+pub fn sound_code_runs<Q, W>()
+    ensures { SoundCodeRuns Q W }
+{}
+
+/// It does so where the code is placed so that each side keeps what it reads and sends what it writes, and receivers lead where they may.
+pub fn placed_code_runs<Q, W>()
+    ensures { PlacedCodeRuns Q W }
+{}
+
+/// In a call the heap that both ends together have is the one heap.
+pub fn merged_is_one()
+    ensures { MergedIsOne }
+{}
+
+/// Between two calls it is the one heap too.
+pub fn merged_at_rest_is_one()
+    ensures { MergedAtRest }
+{}
+
+/// A new plan leaves it, and both ends are at rest under the new plan.
+pub fn rehome_rests()
+    ensures { RehomeRests }
+{}
+
+/// No read of a call is stale.
+pub fn nothing_stale<Q, W>()
+    ensures { NothingStale Q W }
+{}
+
+/// A new session is fresh.
+pub fn new_is_fresh()
+    ensures { NewIsFresh }
+{}
+
+/// No read of any call of a session is stale.
+pub fn session_nothing_stale<Q, W>()
+    ensures { SessionNothingStale Q W }
 {}
