@@ -84,7 +84,7 @@ plain_at [] i all = tt
 plain_at (v ∷ vs) zero all = all.0
 plain_at (v ∷ vs) (suc i) all = plain_at vs i all.1
 
-first_plain : (code : Code) (h : Header) (i : ℕ) → IsPlain (unwrap_or (slice_get (firsts_of code h) i) Null)
+pub first_plain : (code : Code) (h : Header) (i : ℕ) → IsPlain (unwrap_or (slice_get (firsts_of code h) i) Null)
 first_plain code h i = plain_at (firsts_of code h) i (cells_plain code h.kind h.length)
 
 pub blank_plain : (code : Code) (method : ℕ) → AllByRecursion IsPlain (blank_values code method)

@@ -39,6 +39,7 @@ use Rattle.px_ends.specs.Sends.{Reach, read_of, writes_now, HasPart, LeadsThere,
 use Rattle.px_ends.specs.Fits.{Points, leads_of, Within, IsPlain, PlainOperand, PlainSaid, IsPlainAsk, LeadsTo, HeapFits, SlotsFit, HasSlots, FramesFit, BlockIn, GoesBack, Chain, Rooted, last_method, IsFitting, AllHave, CoversArgs, CoversWord, CoversDeed, IsCovered, IsSoundPlan, IsEntryCall, SoundPlansAreGood, EntryCallsAreGood, SessionsAreServed}
 use Rattle.px_ends.specs.Calls.{Attempt, one_kept, one_session, GoodSession}
 use Rattle.px_ends.proofs.CallsAgree.{session_agrees}
+use Rattle.px_ends.proofs.FreshRuns.{session_nothing_stale}
 use Rattle.px_ends.proofs.Acts.{stays}
 use Rattle.px_ends.proofs.StackSteps.{filled_above, heads_stay}
 use Rattle.px_ends.proofs.SendsGood.{placed_is_good, answered_is_good}
@@ -730,4 +731,4 @@ module _ (Q : Type 0) {W : Type 0} (plan : Plan) (points : Points) (sound : IsSo
 pub sessions_are_served : (Q W : Type 0) → SessionsAreServed Q W
 sessions_are_served Q W plan points ask attempts both one sound plain all f r =
     let good = session_good Q plan points sound ask plain attempts one all f in
-    record { rests = session_agrees Q W plan ask attempts both one r good.0; fits = good.1 }
+    record { rests = session_agrees Q W plan ask attempts both one r good.0; fits = good.1; nothing_stale = λ events fresh. session_nothing_stale Q W plan ask attempts one events fresh good.0 }

@@ -89,7 +89,7 @@ marks_heaps plan side known ms ns near far one e h = record {
 -- ---- an allocation
 
 -- the first cells of an object come of the header that it has then
-length_replicate : (n : ℕ) (v : Value) → length (replicate n v) ≡ n
+pub length_replicate : (n : ℕ) (v : Value) → length (replicate n v) ≡ n
 length_replicate zero v = refl
 length_replicate (suc n) v = ap suc (length_replicate n v)
 

@@ -29,6 +29,7 @@ use Rattle.px_blocks.specs.Message.{FrameTold, frame_told}
 use Rattle.px_blocks.specs.One.{One, one_begun, first_of}
 use Rattle.px_ends.specs.Runs.{GoodRun}
 use Rattle.px_ends.specs.Calls.{Rests, Attempt, Both, pair_session, one_session}
+use Rattle.px_ends.specs.Stale.{Event, IsFresh, NoneStaleIn}
 use Rattle.px_ends.specs.Sends.{Leads, HasPart, PlacedDeed}
 
 -- the sites to which slots, parts and results may lead, and what each site makes
@@ -194,10 +195,11 @@ SoundPlansAreGood Q W = (plan : Plan) (points : Points) (ask : Ask Q W) (n : ℕ
 abbrev pub EntryCallsAreGood : Type 0 → Type 0 → Type 0
 EntryCallsAreGood Q W = (plan : Plan) (points : Points) (ask : Ask Q W) (n method : ℕ) (args : List Value) (heap : List Object) (world : W) → IsSoundPlan plan points → IsPlainAsk ask → IsEntryCall plan points method args → HeapFits points heap → GoodRun plan ask n (one_begun plan method args heap world)
 
--- So all calls of a session, of which some are undone, leave both ends at rest with the one heap, and it fits again.
+-- So all calls of a session, of which some are undone, leave both ends at rest with the one heap, it fits again, and no read was stale.
 pub record SessionServed {Q W : Type 0} (plan : Plan) (points : Points) (ask : Ask Q W) (attempts : List (Attempt W)) (both : Both) (one : List Object) : Type 0 where
   pub rests : Rests plan (pair_session plan ask attempts both).app (pair_session plan ask attempts both).db (one_session plan ask attempts one)
   pub fits : HeapFits points (one_session plan ask attempts one)
+  pub nothing_stale : (events : List Event) → IsFresh plan one events → NoneStaleIn plan ask attempts one events
 
 abbrev pub SessionsAreServed : Type 0 → Type 0 → Type 0
 SessionsAreServed Q W = (plan : Plan) (points : Points) (ask : Ask Q W) (attempts : List (Attempt W)) (both : Both) (one : List Object) → IsSoundPlan plan points → IsPlainAsk ask → AllByRecursion (λ (a : Attempt W). IsEntryCall plan points a.method a.args) attempts → HeapFits points one → Rests plan both.app both.db one → SessionServed plan points ask attempts both one

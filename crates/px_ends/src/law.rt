@@ -6,6 +6,7 @@ ghost use Rattle.px_ends.specs.Sends.{PlacedIsGood, AnsweredIsGood, PlansAreGood
 ghost use Rattle.px_ends.specs.Fits.{SoundPlansAreGood, EntryCallsAreGood, SessionsAreServed};
 ghost use Rattle.px_ends.specs.Merged.{MergedIsOne, MergedAtRest, RehomeRests};
 ghost use Rattle.px_ends.specs.Stale.{NothingStale, SessionNothingStale, NewIsFresh};
+ghost use Rattle.px_ends.specs.Welcome.{MessagesAreWelcome, RunsStaySure};
 ghost use Rattle.px_ends.specs.AsCode.{PairRunsAsCode, SoundCodeRuns, PlacedCodeRuns};
 
 /// A statement at the end with control does what it does on the one machine.
@@ -98,7 +99,7 @@ pub fn entry_calls_are_good<Q, W>()
     ensures { EntryCallsAreGood Q W }
 {}
 
-/// All calls of a session of such a plan leave both ends at rest with the one heap, which fits again.
+/// All calls of a session of such a plan leave both ends at rest with the one heap, which fits again, and read nothing stale.
 pub fn sessions_are_served<Q, W>()
     ensures { SessionsAreServed Q W }
 {}
@@ -156,4 +157,14 @@ pub fn new_is_fresh()
 /// No read of any call of a session is stale.
 pub fn session_nothing_stale<Q, W>()
     ensures { SessionNothingStale Q W }
+{}
+
+/// What a message names is there at the end that takes it in.
+pub fn messages_are_welcome()
+    ensures { MessagesAreWelcome }
+{}
+
+/// A run on the one machine makes no reference that leads nowhere, and no heap above its limit.
+pub fn runs_stay_sure<Q, W>()
+    ensures { RunsStaySure Q W }
 {}
