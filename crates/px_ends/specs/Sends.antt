@@ -162,3 +162,15 @@ IsPlacedCode plan placed leads = (m node : ℕ) (d : Deed) → HasStatement plan
 -- the blocks into which placed code is cut are placed
 abbrev pub CutIsPlaced : Type 0
 CutIsPlaced = (plan : Plan) (placed : Placed) (leads : ℕ → Leads) → IsCut plan.code placed plan.blocks → IsPlacedCode plan placed leads → IsPlacedPlan plan leads
+
+-- ---- by method
+
+-- the same, by where the slots of each method may lead
+abbrev pub IsPlacedByMethod : Plan → Placed → (ℕ → Leads) → Type 0
+IsPlacedByMethod plan placed leads = (m node : ℕ) (d : Deed) → HasStatement plan.code m node d → PlacedDeed plan (leads m) (side_of placed.sides node) (send_at placed.sends node) d
+
+abbrev pub IsBlockByMethod : Plan → (ℕ → Leads) → Block → Type 0
+IsBlockByMethod plan leads b = AllByRecursion (λ (s : Statement). PlacedDeed plan (leads b.method) b.side s.send s.deed) b.statements
+
+abbrev pub CutIsPlacedByMethod : Type 0
+CutIsPlacedByMethod = (plan : Plan) (placed : Placed) (leads : ℕ → Leads) → IsCut plan.code placed plan.blocks → IsPlacedByMethod plan placed leads → AllByRecursion (IsBlockByMethod plan leads) plan.blocks.blocks

@@ -2,7 +2,7 @@
 ghost use Rattle.px_ends.specs.Law.{StepAgrees, AnswerAgrees, BlockAgrees, ReadsCurrent, CrossAgrees, PairStepAgrees, PairAnswerAgrees, RunAgrees};
 ghost use Rattle.px_ends.specs.Calls.{NewRests, BeginAgrees, CallAgrees, SessionAgrees};
 ghost use Rattle.px_ends.specs.Undo.{RollsBack, RunsRollBack};
-ghost use Rattle.px_ends.specs.Sends.{PlacedIsGood, AnsweredIsGood, PlansAreGood, CutIsPlaced};
+ghost use Rattle.px_ends.specs.Sends.{PlacedIsGood, AnsweredIsGood, PlansAreGood, CutIsPlaced, CutIsPlacedByMethod};
 ghost use Rattle.px_ends.specs.Fits.{SoundPlansAreGood, EntryCallsAreGood, SessionsAreServed};
 ghost use Rattle.px_ends.specs.Merged.{MergedIsOne, MergedAtRest, RehomeRests};
 ghost use Rattle.px_ends.specs.Stale.{NothingStale, SessionNothingStale, NewIsFresh};
@@ -167,4 +167,9 @@ pub fn messages_are_welcome()
 /// A run on the one machine makes no reference that leads nowhere, and no heap above its limit.
 pub fn runs_stay_sure<Q, W>()
     ensures { RunsStaySure Q W }
+{}
+
+/// So they do by the slots of their methods, as points-to tells where these lead.
+pub fn cut_is_placed_by_method()
+    ensures { CutIsPlacedByMethod }
 {}
