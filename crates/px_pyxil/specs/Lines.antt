@@ -33,4 +33,4 @@ method_lines method = line.Method method.head ∷ (lines_in_all method.body ++ l
 
 -- fields first, then sites, then methods
 abbrev pub lines_of : Pyxil → List Line
-lines_of pyxil = map line.Field pyxil.fields ++ map line.Site pyxil.sites ++ flat_map method_lines pyxil.methods
+lines_of pyxil = map line.Field pyxil.fields ++ (map line.Site pyxil.sites ++ flat_map method_lines pyxil.methods)

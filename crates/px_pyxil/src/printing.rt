@@ -47,7 +47,7 @@ fn push_head(text: &mut Vec<u8>, head: &Head) -> Result<(), AllocError>
 
 // A node and its side, with which the line of a statement begins.
 fn push_at(text: &mut Vec<u8>, at: At) -> Result<(), AllocError>
-    ensures { OnOk result (text.new.items ≡ text.old.items ++ decimal at.node ++ 32 ∷ w.side_name at.side) }
+    ensures { OnOk result (text.new.items ≡ text.old.items ++ (decimal at.node ++ 32 ∷ w.side_name at.side)) }
 {
     push_number(text, at.node)?;
     push_name(text, side_name(at.side))
@@ -92,8 +92,13 @@ fn push_send(text: &mut Vec<u8>, send: &Option<Send>) -> Result<(), AllocError>
     }
 }
 
+fn push_end(text: &mut Vec<u8>) -> Result<(), AllocError>
+    ensures { OnOk result (text.new.items ≡ text.old.items ++ line_text line.End) }
+{
+    text.extend_from_slice(b"end\n")
+}
+
 #[cycle(push)]
-#[tactic(auto, using(crate::proofs::Trees::do_text, crate::proofs::Trees::if_text, crate::proofs::Trees::loop_text))]
 fn push_tree(text: &mut Vec<u8>, tree: &Tree) -> Result<(), AllocError>
     ensures { OnOk result (text.new.items ≡ text.old.items ++ flat_map line_text (lines_in tree.now)) }
 {
@@ -107,7 +112,7 @@ fn push_tree(text: &mut Vec<u8>, tree: &Tree) -> Result<(), AllocError>
             push_trees(text, yes.as_slice())?;
             text.extend_from_slice(b"else\n")?;
             push_trees(text, no.as_slice())?;
-            text.extend_from_slice(b"end\n")
+            push_end(text)
         }
         Tree::Loop {
             first,
@@ -119,7 +124,7 @@ fn push_tree(text: &mut Vec<u8>, tree: &Tree) -> Result<(), AllocError>
             push_trees(text, first.as_slice())?;
             push_test(text, *at, test)?;
             push_trees(text, body.as_slice())?;
-            text.extend_from_slice(b"end\n")
+            push_end(text)
         }
     }
 }
@@ -139,7 +144,7 @@ fn push_method(text: &mut Vec<u8>, method: &Method) -> Result<(), AllocError>
 {
     push_head(text, &method.head)?;
     push_trees(text, method.body.as_slice())?;
-    text.extend_from_slice(b"end\n")
+    push_end(text)
 }
 
 fn push_fields(text: &mut Vec<u8>, fields: &[Field]) -> Result<(), AllocError>
@@ -170,7 +175,6 @@ fn push_methods(text: &mut Vec<u8>, methods: &[Method]) -> Result<(), AllocError
 }
 
 /// The text of the tree, line by line.
-#[tactic(auto, using(crate::proofs::Trees::whole_text))]
 pub fn print(alloc: Global, pyxil: &Pyxil) -> Result<Vec<u8>, AllocError>
     ensures { IfOk result (λ text. text.items ≡ text_of pyxil.now) }
 {
