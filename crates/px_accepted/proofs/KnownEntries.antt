@@ -18,13 +18,13 @@ use Rattle.px_rules.specs.declared.classes.Classes.{Classes}
 use Rattle.px_rules.specs.declared.home.Home.{Home}
 use Rattle.px_rules.specs.Members.{class_members}
 use Rattle.px_rules.specs.Programs.{entries, main_notes}
-use Rattle.px_rules.specs.Bodies.{firsts_from, method_known, class_found, all_found}
+use Rattle.px_rules.specs.Bodies.{firsts_from, method_known, all_found}
 use Rattle.px_rules.specs.Entries.{entry_of, entry_if, entries_from, first_method, main_from}
 use Rattle.px_semantics.specs.Program.{methods_in, methods_of}
 use Rattle.px_lowering.specs.Programs.{is_public}
 use Rattle.px_soundness.proofs.Clean.{Clean, some_is}
 use Rattle.px_soundness.proofs.Standing.{first_in_drop, rest_in_drop, add_one}
-use Rattle.px_soundness.proofs.Programs.{AllProper}
+use Rattle.px_soundness.proofs.Programs.{get_behind, methods_found, AllProper}
 use Rattle.px_soundness.proofs.Scopes.{get_before}
 
 -- ---- places in two lists
@@ -41,13 +41,6 @@ place_in (x ∷ xs) (suc k) = later (place_in xs k)
     later : Place xs k → Place (x ∷ xs) (suc k)
     later (Place.inside h) = Place.inside (omega (arith, h))
     later (Place.behind j h) = Place.behind j (omega (arith, h))
-
-get_behind : {A : Type 0} (xs ys : List A) (k : ℕ) → slice_get (xs ++ ys) (length xs + k) ≡ slice_get ys k
-get_behind [] ys k = ap (λ (i : ℕ). slice_get ys i) (omega arith)
-get_behind (x ∷ xs) ys k = ap (λ (i : ℕ). slice_get (x ∷ (xs ++ ys)) i) (shift (length xs) k) ∙ get_behind xs ys k
-  where
-    shift : (l k : ℕ) → suc l + k ≡ suc (l + k)
-    shift l k = omega arith
 
 got_map : {A B : Type 0} (g : A → B) (xs : List A) (k : ℕ) (x : A) (y : B) → slice_get xs k ≡ Some x → slice_get (map g xs) k ≡ Some y → g x ≡ y
 got_map g [] k x y h i = absurd (cc h)
@@ -79,11 +72,6 @@ module _ (classes : Classes) (firsts : List ℕ) where
   abbrev home : ℕ → Home
   home this = record { classes = classes; firsts = firsts; this = this }
 
-  methods_found : (this : ℕ) (ms : List Member) → (class_found (home this) ms).methods ≡ map (method_known (home this)) (methods_in ms)
-  methods_found this [] = refl
-  methods_found this (member.Field f ∷ ms) = methods_found this ms
-  methods_found this (member.Method m ∷ ms) = ap (λ fs. method_known (home this) m ∷ fs) (methods_found this ms)
-
   -- the class of a method, and its place there
   record IsOf (cs : List Class) (first this k : ℕ) (m : Method) (fact : MethodFact) : Type 0 where
     class : ℕ
@@ -112,9 +100,9 @@ module _ (classes : Classes) (firsts : List ℕ) where
       let ms = methods_in x.members in
       let f = method_known (home this) in
       let others = (all_found (home (this + 1)) cs).methods in
-      let own : slice_get (methods_of cs) j ≡ Some m = sym (get_behind ms (methods_of cs) j) ∙ ap (λ (n : ℕ). slice_get (ms ++ methods_of cs) n) (sym e) ∙ h in
+      let own : slice_get (methods_of cs) j ≡ Some m = sym (get_behind ms (methods_of cs) j (length ms) refl) ∙ ap (λ (n : ℕ). slice_get (ms ++ methods_of cs) n) (sym e) ∙ h in
       let known : slice_get others j ≡ Some fact =
-      sym (get_behind (map f ms) others j) ∙ ap (λ (n : ℕ). slice_get (map f ms ++ others) (n + j)) (length-map ms f) ∙ ap (λ (n : ℕ). slice_get (map f ms ++ others) n) (sym e) ∙ i in
+      sym (get_behind (map f ms) others j (length (map f ms)) refl) ∙ ap (λ (n : ℕ). slice_get (map f ms ++ others) (n + j)) (length-map ms f) ∙ ap (λ (n : ℕ). slice_get (map f ms ++ others) n) (sym e) ∙ i in
       let r = later j own known in
       let number = r.number_is in
       record { class = suc r.class; c = r.c; c_is = r.c_is; q = r.q; m_is = r.m_is; owner = r.owner ∙ one_more this r.class; own_first = r.own_first; first_is = r.first_is; number_is = omega (arith, number, long, e) }
@@ -122,7 +110,7 @@ module _ (classes : Classes) (firsts : List ℕ) where
   class_of : (cs : List Class) → AllProper classes firsts cs → (first this k : ℕ) (m : Method) (fact : MethodFact) → slice_get (methods_of cs) k ≡ Some m → slice_get (all_found (home this) cs).methods k ≡ Some fact → IsOf cs first this k m fact
   class_of [] p first this k m fact h i = absurd (cc h)
   class_of (x ∷ cs) p first this k m fact h i =
-      of_more x cs first this k m fact p.0.names (place_in (methods_in x.members) k) h (ap (λ (fs : List MethodFact). slice_get (fs ++ (all_found (home (this + 1)) cs).methods) k) (sym (methods_found this x.members)) ∙ i)
+      of_more x cs first this k m fact p.0.names (place_in (methods_in x.members) k) h (ap (λ (fs : List MethodFact). slice_get (fs ++ (all_found (home (this + 1)) cs).methods) k) (sym (methods_found classes firsts this x.members)) ∙ i)
       (λ j own known. class_of cs p.1 (first + length (class_members numbers x).methods.names) (this + 1) j m fact own known)
 
   -- a method by its class and its place there
@@ -142,7 +130,7 @@ module _ (classes : Classes) (firsts : List ℕ) where
       record {
         before = count + r.before;
         first_is = r.first_is ∙ ap Some (together first count r.before);
-        m_is = ap (λ (i : ℕ). slice_get (methods_in x.members ++ methods_of cs) ((i + r.before) + q)) p.0.names ∙ ap (λ (i : ℕ). slice_get (methods_in x.members ++ methods_of cs) i) (together (length (methods_in x.members)) r.before q) ∙ get_behind (methods_in x.members) (methods_of cs) (r.before + q) ∙ r.m_is;
+        m_is = ap (λ (i : ℕ). slice_get (methods_in x.members ++ methods_of cs) ((i + r.before) + q)) p.0.names ∙ ap (λ (i : ℕ). slice_get (methods_in x.members ++ methods_of cs) i) (together (length (methods_in x.members)) r.before q) ∙ get_behind (methods_in x.members) (methods_of cs) (r.before + q) (length (methods_in x.members)) refl ∙ r.m_is;
       }
 
   -- ---- the class Main

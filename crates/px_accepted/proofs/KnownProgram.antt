@@ -27,12 +27,12 @@ use Rattle.px_semantics.specs.Program.{methods_of}
 use Rattle.px_lowering.specs.declared.allocations.Allocation.{Allocation}
 use Rattle.px_lowering.specs.Allocations.{kind_of}
 use Rattle.px_lowering.specs.Programs.{allocations, is_public, is_entry}
-use Rattle.px_typed_code.specs.Uses.{is_value, is_result}
+use Rattle.px_typed_code.specs.Values.{is_value, is_result}
 use Rattle.px_typed_code.specs.Laws.{site_of, IsKnownClass, IsKnownKind, ArePublic}
 use Rattle.px_soundness.specs.Numbered.{AreClasses}
 use Rattle.px_soundness.proofs.Clean.{Clean, clean_left, clean_right, and_left, and_right, some_is}
 use Rattle.px_soundness.proofs.Standing.{first_in_drop, rest_in_drop, add_one}
-use Rattle.px_soundness.proofs.Programs.{all_proper, AllProper}
+use Rattle.px_soundness.proofs.Programs.{got_from, all_proper, AllProper}
 use Rattle.px_accepted.proofs.Known.{no_notes}
 use Rattle.px_accepted.proofs.KnownTypes.{classes_values, field_value, value_at as typed_value_at}
 use Rattle.px_accepted.proofs.KnownEntries.{IsMain, main_is, public_is_entry, entry_is_public}
@@ -73,12 +73,6 @@ found_known F (Some place) vs class h e = class_at F vs place class h e
 map_twice : {A B D : Type 0} (f : B → D) (g : A → B) (xs : List A) → map f (map g xs) ≡ map (λ x. f (g x)) xs
 map_twice f g [] = refl
 map_twice f g (x ∷ xs) = ap (λ ys. f (g x) ∷ ys) (map_twice f g xs)
-
--- what an item of a map was
-got_from : {A B : Type 0} (f : A → B) (xs : List A) (k : ℕ) (y : B) → slice_get (map f xs) k ≡ Some y → (x : A) × (slice_get xs k ≡ Some x) × (f x ≡ y)
-got_from f [] k y h = absurd (cc h)
-got_from f (x ∷ xs) zero y h = (x, refl, cc h)
-got_from f (x ∷ xs) (suc k) y h = got_from f xs k y h
 
 one_plus : (n : ℕ) → 1 + n ≡ suc n
 one_plus n = omega arith

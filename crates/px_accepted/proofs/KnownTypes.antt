@@ -26,7 +26,7 @@ use Rattle.px_rules.specs.Bodies.{with_params}
 use Rattle.px_rules.specs.Programs.{field_names, method_names, members_notes, all_members, max_fields}
 use Rattle.px_rules.specs.Checked.{type_in, class_known}
 use Rattle.px_semantics.specs.Facts.{fields_in}
-use Rattle.px_typed_code.specs.Uses.{is_value, is_result}
+use Rattle.px_typed_code.specs.Values.{is_value, is_result}
 use Rattle.px_soundness.specs.Numbered.{IsTypeName, AreParams, IsResult, AreMembers, AreClasses}
 use Rattle.px_soundness.proofs.Clean.{Clean, clean_left, clean_right, not_broken, some_is}
 use Rattle.px_soundness.proofs.Expressions.{element_of, found_class}

@@ -1,5 +1,4 @@
 pub mod Known
-pub mod Given
 pub mod Numbered
 pub mod KnownTypes
 pub mod Written
@@ -10,3 +9,9 @@ pub mod SoundBodies
 pub mod KnownEntries
 pub mod KnownProgram
 pub mod UsedWell
+pub mod SpelledExpressions
+pub mod SpelledStatements
+pub mod SpelledSizes
+pub mod ShortMethods
+pub mod AcceptedSlots
+pub mod Limits

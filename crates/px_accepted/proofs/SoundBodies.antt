@@ -39,7 +39,7 @@ use Rattle.px_rules.specs.Checked.{class_known}
 use Rattle.px_rules.proofs.Forms.{typed_by_form, typed_field}
 use Rattle.px_rules.proofs.StatementForms.{judged_by_form, judged_block, judged_empty, judged_local, judged_assign, judged_compound, judged_up, judged_down, judged_call, judged_if, judged_while, judged_for, judged_return, judged_print}
 use Rattle.px_rules.proofs.ToldForms.{told_block, told_empty, told_local, told_assign, told_compound, told_up, told_down, told_call, told_if, told_while, told_for, told_return, told_print}
-use Rattle.px_typed_code.specs.Uses.{is_result}
+use Rattle.px_typed_code.specs.Values.{is_result}
 use Rattle.px_typed_code.specs.Laws.{IsKnownClass}
 use Rattle.px_soundness.specs.Numbered.{IsExpr, IsStmt, AreStmts, AreMembers, AreClasses}
 use Rattle.px_soundness.proofs.Clean.{Clean, clean_left, clean_right, some_is}

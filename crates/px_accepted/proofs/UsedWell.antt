@@ -10,8 +10,8 @@ use Rattle.px_soundness.proofs.Accepted.{accepted_used}
 use Rattle.px_accepted.proofs.Known.{accepted_known}
 use Rattle.px_accepted.proofs.KnownProgram.{accepted_fields, accepted_slots, accepted_results, accepted_owners, accepted_main, accepted_sites, accepted_kinds, accepted_entries}
 
-pub used_well : (schema : Schema) (program : Program) (m : ℕ) → AreClasses 0 program.classes m → first_breach_of schema program ≡ None → AreUsedWell (checked_of program schema)
-used_well schema program m d h = record {
+pub accepted_is_used_well : (schema : Schema) (program : Program) (m : ℕ) → AreClasses 0 program.classes m → first_breach_of schema program ≡ None → AreUsedWell (checked_of program schema)
+accepted_is_used_well schema program m d h = record {
   classes = accepted_known schema program h;
   fields = accepted_fields schema program m d h;
   slots = accepted_slots schema program m d h;

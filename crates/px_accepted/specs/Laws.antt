@@ -17,6 +17,7 @@ use Rattle.px_lowering.specs.Programs.{lowered}
 use Rattle.px_typed_code.specs.Laws.{IsEntryOf}
 use Rattle.px_typed_code.specs.Nodes.{method_nodes, class_nodes, site_nodes, count_up}
 use Rattle.px_counted.specs.Numbers.{AreNumbered}
+use Rattle.px_counted.specs.Laws.{CountsTell}
 
 -- Its code comes to the same value, throw or open question as it does, with the same heap, world, prints and counts: whatever the heap, the world, the way in which that answers, the method and the arguments.
 abbrev pub AcceptedKeepsMeaning : (Q W : Type 0) → Type 0
@@ -41,3 +42,7 @@ AcceptedEntriesAreMethods = (bytes : List ℕ) (program : Program) (schema : Sch
 abbrev pub AcceptedNodesAreInOrder : Type 0
 AcceptedNodesAreInOrder = (bytes : List ℕ) (program : Program) (schema : Schema) → IsAccepted bytes program schema
     → method_nodes (lowered (checked_of program schema)).methods ++ (class_nodes (lowered (checked_of program schema)).classes ++ site_nodes (lowered (checked_of program schema)).sites) ≡ count_up 1 (length (lowered (checked_of program schema)).nodes)
+
+-- Its counters tell how often the statements of its code run.
+abbrev pub AcceptedCountsAreRuns : (Q W : Type 0) → Type 0
+AcceptedCountsAreRuns Q W = (bytes : List ℕ) (program : Program) (schema : Schema) → IsAccepted bytes program schema → CountsTell Q W (checked_of program schema)

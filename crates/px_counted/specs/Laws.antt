@@ -44,10 +44,13 @@ EndsAt (Asks q t) s = ⊥
 abbrev pub NeverThrows : (Q W : Type 0) → Ask Q W → Type 0
 NeverThrows Q W ask = (o : TableOp) (w to : W) (t : Thrown) → ask o w ≡ Throws t to → ⊥
 
--- Each statement of the code of a typed program runs as often as its counter tells, where the program's run and the code's end with a value or a throw.
-abbrev pub CountsAreRuns : (Q W : Type 0) → Type 0
-CountsAreRuns Q W = (P : Checked) → IsTyped (source_from P) → AreKnown P.program.classes P.facts.classes → AreNumbered P
-    → (ask : Ask Q W) → NeverThrows Q W ask → (heap : List Object) (world : W) (method : ℕ) (args : List Value)
+-- Each statement of a program's code runs as often as its counter tells, where the program's run and the code's end with a value or a throw.
+abbrev pub CountsTell : (Q W : Type 0) → Checked → Type 0
+CountsTell Q W P = (ask : Ask Q W) → NeverThrows Q W ask → (heap : List Object) (world : W) (method : ℕ) (args : List Value)
     → (s : Shared (Marked W)) (g : Traced W) → EndsAt (exec_with_marks ask (source_from P) heap world method args) s → EndsAt (code_run (lowered P) ask heap world method args) g
     → (number : ℕ) (node : Node) (c : Counter) → numbered (lowered P).nodes number ≡ Some node → node.kind ≡ Normal → node.counter ≡ Some c
     → runs_of number g.ran ≡ times (mark_of c) s.world.marks
+
+-- The counters of the code of a typed program tell how often its statements run.
+abbrev pub CountsAreRuns : (Q W : Type 0) → Type 0
+CountsAreRuns Q W = (P : Checked) → IsTyped (source_from P) → AreKnown P.program.classes P.facts.classes → AreNumbered P → CountsTell Q W P

@@ -4,6 +4,8 @@ use Rattle.std.proofs.lemmas.List.{drop_more}
 use Rattle.std.specs.declared.cmp.Ordering.{Ordering}
 use Rattle.std.specs.declared.cmp.Ordering.TheVariants.{Less, Equal, Greater}
 use Rattle.std.specs.Ordering.{match_ordering}
+use Rattle.std.specs.List.{AllByRecursion}
+use Rattle.std.specs.List.Sorted.{IsStrictlySortedBy}
 use Rattle.std.specs.BTreeSet.{insert_key}
 use Rattle.px_constraints.specs.System.{At}
 use Rattle.px_flow_points.specs.Order.{put_all}
@@ -71,3 +73,12 @@ put_more {K} cmp keys new ks whole i d h e f = ap (λ (z : List K). put_all cmp 
 pub insert_alike : {K : Type 0} (c d : K → K → Ordering) → ((a b : K) → c a b ≡ d a b) → (xs : List K) (k : K) → insert_key c xs k ≡ insert_key d xs k
 insert_alike {K} c d e [] k = refl
 insert_alike {K} c d e (x ∷ xs) k = ap (λ (o : Ordering). match_ordering o (k ∷ x ∷ xs) (x ∷ xs) (x ∷ insert_key c xs k)) (e k x) ∙ ap (λ (ys : List K). match_ordering (d k x) (k ∷ x ∷ xs) (x ∷ xs) (x ∷ ys)) (insert_alike c d e xs k)
+
+below_alike : {K : Type 0} (c d : K → K → Ordering) → ((a b : K) → c a b ≡ d a b) → (x : K) (xs : List K) → AllByRecursion (λ y. c x y ≡ Less) xs → AllByRecursion (λ y. d x y ≡ Less) xs
+below_alike {K} c d e x [] h = tt
+below_alike {K} c d e x (y ∷ ys) h = (sym (e x y) ∙ h.0, below_alike c d e x ys h.1)
+
+pub sorted_alike : {K : Type 0} (c d : K → K → Ordering) → ((a b : K) → c a b ≡ d a b) → (xs : List K) → IsStrictlySortedBy c xs → IsStrictlySortedBy d xs
+unfolding IsStrictlySortedBy
+sorted_alike {K} c d e [] h = tt
+sorted_alike {K} c d e (x ∷ xs) h = (below_alike c d e x xs h.0, sorted_alike c d e xs h.1)

@@ -9,7 +9,7 @@ mod Kept
 mod Touching
 mod TouchWalk
 mod TouchOrder
-mod TouchWhere
+pub mod TouchWhere
 mod Rising
 mod ByNode
 pub mod Elements

@@ -1,5 +1,5 @@
 -- The text of each kind of tree.
-use Rattle.std.proofs.Common.{◌≡◌, ℕ, List, [], ◌∷◌, ◌++◌, map, codes, Option, refl, sym, ap, ◌∙◌}
+use Rattle.std.proofs.Common.{◌≡◌, ℕ, List, [], ◌∷◌, ◌++◌, map, codes, Option, sym, ap, ◌∙◌}
 use Rattle.std.specs.List.{flat_map}
 use Rattle.std.proofs.lemmas.List.{append_assoc}
 use Rattle.std.proofs.lemmas.Grind.{flat_map-append}
@@ -7,7 +7,7 @@ use Rattle.px_normal.specs.declared.word.Operand.{Operand}
 use Rattle.px_blocks.specs.declared.block.Send.{Send}
 use Rattle.px_pyxil.specs.declared.tree.At.{At}
 use Rattle.px_pyxil.specs.declared.word.Word.{Word}
-use Rattle.px_pyxil.specs.declared.tree.Tree.{Tree, Tree-F, fold-Tree, roll-Tree, map-Tree, fold-roll-Tree}
+use Rattle.px_pyxil.specs.declared.tree.Tree.{Tree, Tree-F, roll-Tree, map-Tree, fold-roll-Tree}
 use Rattle.px_pyxil.specs.declared.tree.Tree.TheVariants.{Do, If, Loop, rolls-Do, rolls-If, rolls-Loop}
 use Rattle.px_pyxil.specs.declared.tree.Tree.TheOpen.{Tree-F as t}
 use Rattle.px_pyxil.specs.declared.tree.Field.{Field}

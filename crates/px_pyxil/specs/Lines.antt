@@ -1,5 +1,5 @@
 -- The lines of a tree, in order.
-use Rattle.std.specs.Prelude.{ℕ, List, [], ◌∷◌, ◌++◌, map, Option, Some, None}
+use Rattle.std.specs.Prelude.{List, [], ◌∷◌, ◌++◌, map, Option, Some, None}
 use Rattle.std.specs.List.{flat_map}
 use Rattle.px_blocks.specs.declared.block.Send.{Send}
 use Rattle.px_pyxil.specs.declared.tree.Tree.{Tree, Tree-F, fold-Tree}

@@ -56,7 +56,7 @@ zero_plus n = omega arith
 plus_zero : (n : ℕ) → n ≡ n + 0
 plus_zero n = omega arith
 
-get_behind : {A : Type 0} (xs ys : List A) (k n : ℕ) → n ≡ length xs → slice_get (xs ++ ys) (n + k) ≡ slice_get ys k
+pub get_behind : {A : Type 0} (xs ys : List A) (k n : ℕ) → n ≡ length xs → slice_get (xs ++ ys) (n + k) ≡ slice_get ys k
 get_behind [] ys k n e = ap (λ i. slice_get ys i) (omega (arith, e))
 get_behind (x ∷ xs) ys k n e = ap (λ i. slice_get (x ∷ (xs ++ ys)) i) (shift n (length xs) k e) ∙ get_behind xs ys k (length xs) refl
   where
@@ -67,7 +67,7 @@ get_front : {A : Type 0} (xs ys : List A) (k : ℕ) (x : A) → slice_get xs k �
 get_front xs ys k x h = get_before xs ys k (slice_get_within xs k x h) ∙ h
 
 -- what an item of a map was
-got_from : {A B : Type 0} (f : A → B) (xs : List A) (k : ℕ) (y : B) → slice_get (map f xs) k ≡ Some y → (x : A) × (slice_get xs k ≡ Some x) × (f x ≡ y)
+pub got_from : {A B : Type 0} (f : A → B) (xs : List A) (k : ℕ) (y : B) → slice_get (map f xs) k ≡ Some y → (x : A) × (slice_get xs k ≡ Some x) × (f x ≡ y)
 got_from f [] k y h = absurd (cc h)
 got_from f (x ∷ xs) zero y h = (x, refl, cc h)
 got_from f (x ∷ xs) (suc k) y h = got_from f xs k y h
@@ -202,7 +202,7 @@ module _ (classes : Classes) (firsts : List ℕ) where
 
   -- ---- where methods stand
 
-  methods_found : (this : ℕ) (ms : List Member) → (class_found (home this) ms).methods ≡ map (method_known (home this)) (methods_in ms)
+  pub methods_found : (this : ℕ) (ms : List Member) → (class_found (home this) ms).methods ≡ map (method_known (home this)) (methods_in ms)
   methods_found this [] = refl
   methods_found this (member.Field f ∷ ms) = methods_found this ms
   methods_found this (member.Method m ∷ ms) = ap (λ fs. method_known (home this) m ∷ fs) (methods_found this ms)

@@ -24,7 +24,7 @@ use Rattle.px_semantics.specs.Typing as typing
 use Rattle.px_semantics.specs.Typing.{AreSendable, IsSendable}
 use Rattle.px_lowering.specs.Types.{code_type, code_result}
 use Rattle.px_lowering.specs.Allocations.{kind_of}
-use Rattle.px_typed_code.specs.Uses.{is_value, is_result}
+use Rattle.px_typed_code.specs.Values.{is_value, is_result}
 use Rattle.px_typed_code.specs.Laws.{site_of}
 use Rattle.px_typed_code.proofs.Operators.{IsPlain, never, never_so}
 use Rattle.px_typed_code.proofs.Drafts.{Grows, OperandFits, has_ty, operand_more}

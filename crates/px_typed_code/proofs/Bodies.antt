@@ -21,7 +21,7 @@ use Rattle.px_lowering.specs.Types.{code_type, code_result}
 use Rattle.px_lowering.specs.Statements.{completes, low_stmt}
 use Rattle.px_lowering.specs.Programs.{first_types, begun, ended, lowered_body}
 use Rattle.px_uses.specs.Uses.{AreUsed}
-use Rattle.px_typed_code.specs.Uses.{is_value}
+use Rattle.px_typed_code.specs.Values.{is_value}
 use Rattle.px_typed_code.proofs.Operators.{never}
 use Rattle.px_typed_code.proofs.Drafts.{Grows, Goes, goes_then, emits}
 use Rattle.px_typed_code.proofs.Around.{IsCodeOf}

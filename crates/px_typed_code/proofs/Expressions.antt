@@ -49,7 +49,7 @@ use Rattle.px_lowering.specs.Allocations.{kind_of}
 use Rattle.px_typed_code.specs.Laws.{site_of}
 use Rattle.px_uses.specs.Uses as uses
 use Rattle.px_uses.specs.Uses.{is_choice, joins, IsPart, AsksRows, IsUsed}
-use Rattle.px_typed_code.specs.Uses.{is_value}
+use Rattle.px_typed_code.specs.Values.{is_value}
 use Rattle.px_typed_code.specs.Nodes.{nodes_in, all_nodes}
 use Rattle.px_typed_code.proofs.Counted.{counted_none, nodes_if}
 use Rattle.px_typed_code.proofs.Operators.{IsPlain, GivesCode, gives_code, prefix_joins_none, SignIs, sign_is, never}

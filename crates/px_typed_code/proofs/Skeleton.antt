@@ -20,7 +20,7 @@ use Rattle.px_normal.specs.Typed.{type_of, kind_of as kind_in}
 use Rattle.px_lowering.specs.declared.allocations.Allocation.{Allocation}
 use Rattle.px_lowering.specs.Types.{code_type, code_result}
 use Rattle.px_lowering.specs.Programs.{allocations, statement_of}
-use Rattle.px_typed_code.specs.Uses.{is_value}
+use Rattle.px_typed_code.specs.Values.{is_value}
 use Rattle.px_typed_code.specs.Laws.{AreUsedWell}
 use Rattle.px_typed_code.proofs.Drafts.{grows_append}
 use Rattle.px_typed_code.proofs.Around.{IsCodeOf}

@@ -44,7 +44,7 @@ use Rattle.px_lowering.specs.Statements.{whole, last_completes, completes_step, 
 use Rattle.px_lowering.proofs.StmtForms.{completes_block, completes_return, completes_if, low_block, low_empty, low_local, low_assign, low_compound, low_up, low_down, low_call, low_if, low_while, low_for, low_return, low_print}
 use Rattle.px_uses.specs.Uses as uses
 use Rattle.px_uses.specs.Uses.{joins, IsUsed, IsIn, IsInner, IsAskedOf, AreUsed}
-use Rattle.px_typed_code.specs.Uses.{is_value}
+use Rattle.px_typed_code.specs.Values.{is_value}
 use Rattle.px_typed_code.specs.Nodes.{all_nodes}
 use Rattle.px_typed_code.proofs.Counted.{counted_then, counted_none, counted_first, counted_by, nodes_if, nodes_loop, all_next}
 use Rattle.px_typed_code.proofs.Operators.{IsPlain, GivesCode, gives_code, never, never_so}

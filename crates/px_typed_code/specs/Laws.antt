@@ -28,7 +28,7 @@ use Rattle.px_lowering.specs.Programs.{allocations, is_public, is_entry, lowered
 use Rattle.px_lowering.specs.Types.{code_type}
 use Rattle.px_preservation.specs.Laws.{AreKnown}
 use Rattle.px_uses.specs.Uses.{AreUsed}
-use Rattle.px_typed_code.specs.Uses.{is_value, is_result}
+use Rattle.px_typed_code.specs.Values.{is_value, is_result}
 
 -- ---- sites
 

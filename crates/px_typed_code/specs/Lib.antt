@@ -1,4 +1,4 @@
-pub mod Uses
+pub mod Values
 pub mod Laws
 pub mod Nodes
 pub mod Sizes

@@ -3,10 +3,10 @@ use Rattle.px_soundness.proofs.Accepted.{accepted_typed}
 use Rattle.px_soundness.proofs.Texts.{program_classes}
 use Rattle.px_typed_code.proofs.Programs.{entries_are_methods}
 use Rattle.px_accepted.proofs.KnownProgram.{accepted_public}
-use Rattle.px_accepted.proofs.UsedWell.{used_well}
+use Rattle.px_accepted.proofs.UsedWell.{accepted_is_used_well}
 use Rattle.px_accepted.proofs.law.accepted_entries_are_methods.Goals as goal
 
 pub returns : goal.returns
 returns c = λ bytes program schema a.
     let d = program_classes bytes program a.program_is in
-    entries_are_methods (checked_of program schema) (accepted_typed schema program d.0 d.1 a.kept) (used_well schema program d.0 d.1 a.kept) (accepted_public schema program d.0 d.1 a.kept)
+    entries_are_methods (checked_of program schema) (accepted_typed schema program d.0 d.1 a.kept) (accepted_is_used_well schema program d.0 d.1 a.kept) (accepted_public schema program d.0 d.1 a.kept)

@@ -2,10 +2,10 @@ use Rattle.px_rules.specs.Checked.{checked_of}
 use Rattle.px_soundness.proofs.Accepted.{accepted_typed}
 use Rattle.px_soundness.proofs.Texts.{program_classes}
 use Rattle.px_typed_code.proofs.Order.{nodes_are_in_order}
-use Rattle.px_accepted.proofs.UsedWell.{used_well}
+use Rattle.px_accepted.proofs.UsedWell.{accepted_is_used_well}
 use Rattle.px_accepted.proofs.law.accepted_nodes_are_in_order.Goals as goal
 
 pub returns : goal.returns
 returns c = λ bytes program schema a.
     let d = program_classes bytes program a.program_is in
-    nodes_are_in_order (checked_of program schema) (accepted_typed schema program d.0 d.1 a.kept) (used_well schema program d.0 d.1 a.kept)
+    nodes_are_in_order (checked_of program schema) (accepted_typed schema program d.0 d.1 a.kept) (accepted_is_used_well schema program d.0 d.1 a.kept)

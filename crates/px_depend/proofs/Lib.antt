@@ -1,0 +1,14 @@
+mod Turns
+mod Truths
+mod Lists
+mod Sums
+mod Steps
+mod Crossing
+mod Branching
+mod EdgeOrder
+mod LineWalk
+mod Given
+mod Calls
+mod Holding
+mod Whole
+mod Loops

@@ -1,0 +1,11 @@
+use Rattle.px_depend.proofs.LineWalk.{is_do, is_if, is_loop, three_parts}
+use Rattle.px_depend.proofs.lines.+walk.Goals as goal
+
+pub tree-returns-in-Do : goal.tree-returns-in-Do
+tree-returns-in-Do t c = is_do c.add.result c.args.method c.args.by c.args.tree_of.now c.in-Do.node c.in-Do.word c.does_of.result c.args.into.now.items c.add.new.into.items c.in-Do.is c.does_of.ensures c.add.ensures
+
+pub tree-returns-in_ok-trees-in-If : goal.tree-returns-in_ok-trees-in-If
+tree-returns-in_ok-trees-in-If t c = three_parts c.trees-in-If.result c.args.into.now.items c.add-in-If.new.into.items c.trees.new.into.items c.trees-in-If.new.into.items _ _ _ _ c.in_ok-add-in-If.ensures c.in_ok-trees-in-If.ensures (is_if c.args.method c.args.by c.args.tree_of.now c.in-If.node c.in-If.test c.in-If.yes c.in-If.no c.as_slice.result.now c.as_slice-in-If.result.now c.in-If.is c.as_slice.ensures c.as_slice-in-If.ensures) c.trees-in-If.ensures
+
+pub tree-returns-in_ok-add-in-Loop : goal.tree-returns-in_ok-add-in-Loop
+tree-returns-in_ok-add-in-Loop t c = three_parts c.trees-in-Loop-2.result c.args.into.now.items c.trees-in-Loop.new.into.items c.add-in-Loop.new.into.items c.trees-in-Loop-2.new.into.items _ _ _ _ c.in_ok-trees-in-Loop.ensures c.in_ok-add-in-Loop.ensures (is_loop c.args.method c.args.by c.args.tree_of.now c.in-Loop.first c.in-Loop.node c.in-Loop.test c.in-Loop.body c.as_slice-in-Loop.result.now c.as_slice-in-Loop-2.result.now c.in-Loop.is c.as_slice-in-Loop.ensures c.as_slice-in-Loop-2.ensures) c.trees-in-Loop-2.ensures

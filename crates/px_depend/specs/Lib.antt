@@ -1,0 +1,12 @@
+pub mod Flow
+pub mod Paths
+pub mod Uses
+pub mod Shapes
+pub mod Lines
+pub mod Sizes
+pub mod Depend
+pub mod Places
+pub mod Summaries
+pub mod Local
+pub mod Objects
+pub mod Order

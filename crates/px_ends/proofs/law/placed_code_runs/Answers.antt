@@ -1,0 +1,5 @@
+use Rattle.px_ends.proofs.AsCode.{placed_code_runs as law}
+use Rattle.px_ends.proofs.law.placed_code_runs.Goals as goal
+
+pub returns : goal.returns
+returns t c = law _ _
