@@ -1,0 +1,8 @@
+use Rattle.std.proofs.Common.{◌≡◌, ◌++◌, drop}
+use Rattle.std.specs.List.{flat_map}
+use Rattle.px_pyxil.specs.Words.{escaped}
+use Rattle.px_pyxil.proofs.words.push_quoted.Given as goal
+
+abbrev pub invariant-loop-byte : goal.invariant-loop-byte
+invariant-loop-byte l =
+    l.text.items ++ flat_map escaped (drop l.byte-index l.bytes) ≡ l.initial.text.items ++ flat_map escaped l.bytes
