@@ -1,4 +1,0 @@
-pub mod Events
-pub mod Sound
-pub mod Stamped
-pub mod Told
