@@ -2,7 +2,7 @@
 ghost use Rattle.std.specs.Prelude.{◌≡◌, IfOk, length};
 
 use px_code::{Done, Reply};
-use px_core::{Core, Opped};
+use px_engine::{Begun, Engine, Opped};
 use px_rows::{LoadError, Tables};
 use px_value::{Answer, Schema, Statement, Table, TableOp, Text, Thrown, Value, Values};
 use sqlite_items::Items;
