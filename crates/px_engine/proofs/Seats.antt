@@ -1,5 +1,5 @@
 -- Seats tell what the history says.
-use Rattle.std.proofs.Common.{◌≡◌, ◌≢◌, ℕ, ◌+◌, ◌<◌, ◌≤◌, nat_le, nat_lt, Bool, true, false, not, All, ◌⊎◌, ◌==◌, ◌&&◌, ◌||◌, if◌then◌else◌, List, [], ◌∷◌, Option, Some, None, is_some, refl, sym, ap, ◌∙◌, subst, arith, inl, inr, length, slice_index_or, slice_set, get_or-set_same, get_or-set_other, zero, suc}
+use Rattle.std.proofs.Common.{◌≡◌, ◌≢◌, ℕ, ◌+◌, ◌<◌, ◌≤◌, nat_le, nat_lt, Bool, true, false, not, All, ◌⊎◌, ◌==◌, ◌&&◌, ◌||◌, if◌then◌else◌, List, [], ◌∷◌, Option, Some, None, is_some, refl, sym, ap, ◌∙◌, subst, arith, inl, inr, length, slice_set, get_or-set_same, get_or-set_other, zero, suc}
 use Rattle.std.proofs.lemmas.Bool.{both_ways, cases_eq, cases_Bool, cases_lt, cond-true, cond-false, eq-eqb, ne_eqb, and_left, and_right, and_from, or_left, or_right, or_from, or_parts, le-leb, leb-true, ltb-true, ltb-false, false_from_ne_true}
 use Rattle.px_value.specs.declared.statement.TableOp.{TableOp}
 use Rattle.px_code.specs.declared.reply.Done.{Done}

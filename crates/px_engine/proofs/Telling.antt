@@ -1,7 +1,6 @@
 -- What the book tells a session, in the words of the history.
-use Rattle.std.proofs.Common.{◌≡◌, ℕ, ◌+◌, true, List, [], ◌∷◌, reverse, ap, ◌∙◌, sym, subst}
+use Rattle.std.proofs.Common.{◌≡◌, ℕ, true, List, [], ◌∷◌, ap, ◌∙◌, subst}
 use Rattle.px_value.specs.declared.statement.TableOp.{TableOp}
-use Rattle.px_rows.specs.Tables.{Tables, Old}
 use Rattle.px_locks.specs.declared.want.Grant.{Grant}
 use Rattle.px_locks.specs.declared.want.Want.{Want}
 use Rattle.px_locks.specs.declared.book.Asked.{Asked}

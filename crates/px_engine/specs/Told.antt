@@ -1,7 +1,6 @@
 -- What a session is told, and which event that adds. The latest event of h stands first; old and new are in their order.
 use Rattle.std.specs.Prelude.{◌≡◌, ℕ, ◌+◌, ◌≤◌, ◌<◌, true, false, List, [], ◌∷◌, ◌++◌, reverse, Some}
 use Rattle.px_value.specs.declared.statement.TableOp.{TableOp}
-use Rattle.px_value.specs.declared.answer.Answer.{Answer}
 use Rattle.px_rows.specs.Tables.{Tables}
 use Rattle.px_history.specs.declared.event.Event.{Event}
 use Rattle.px_history.specs.declared.event.Event.TheVariants.{Begin, Op, Die}

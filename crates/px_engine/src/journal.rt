@@ -49,6 +49,13 @@ impl Journal {
         Ok(())
     }
 
+    /// How many more events take no memory.
+    pub fn spare(&self) -> usize
+        ensures { result ≡ self.now.spare }
+    {
+        self.spare
+    }
+
     /// Takes no memory.
     pub fn append(&mut self, event: Event)
         requires { 0 < self.old.spare }

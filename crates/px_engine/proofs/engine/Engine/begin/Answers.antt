@@ -1,9 +1,8 @@
-use Rattle.std.proofs.Common.{◌≡◌, ℕ, ◌+◌, List, reverse, ap, sym, subst, ◌∙◌, None}
-use Rattle.px_history.specs.Attempts.{deaths}
+use Rattle.std.proofs.Common.{◌≡◌, ℕ, List, reverse, ap, sym, subst, ◌∙◌, None}
 use Rattle.px_history.specs.Legal.{MayBegin}
 use Rattle.px_engine.specs.declared.seat.Seat.{Seat}
 use Rattle.px_engine.specs.Seats.{seat_at, held_by}
-use Rattle.px_engine.proofs.Seated.{attempt_is, free_now, held_now}
+use Rattle.px_engine.proofs.Seated.{attempt_is, free_now}
 use Rattle.px_engine.proofs.engine.Engine.begin.Goals as goal
 
 pub returns-in_ok-attempt-in-None-clause-sound : goal.returns-in_ok-attempt-in-None-clause-sound

@@ -3,7 +3,6 @@ use Rattle.px_rows.specs.Tables.{Old, undone}
 use Rattle.px_locks.specs.Locks.{without}
 use Rattle.px_history.specs.declared.event.Event.TheVariants.{End}
 use Rattle.px_engine.specs.declared.engine.Engine.{Engine}
-use Rattle.px_engine.specs.declared.seat.Seat.{Seat}
 use Rattle.px_engine.specs.Seats.{ended_seat}
 use Rattle.px_engine.specs.Sound.{IsSeated}
 use Rattle.px_engine.proofs.Seated.{seat_here, seated_next, seated_push}

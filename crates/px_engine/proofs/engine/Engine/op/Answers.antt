@@ -1,4 +1,4 @@
-use Rattle.std.proofs.Common.{◌≡◌, ℕ, ◌++◌, List, [], ◌∷◌, ap, ◌∙◌, refl, subst, reverse}
+use Rattle.std.proofs.Common.{◌≡◌, ◌++◌, List, [], ◌∷◌, ap, ◌∙◌, refl, subst, reverse}
 use Rattle.px_rows.specs.Tables.{Old, undone}
 use Rattle.px_rows.specs.Means.{old_of}
 use Rattle.px_locks.specs.declared.want.Grant.{Grant}

@@ -1,4 +1,4 @@
-use Rattle.std.proofs.Common.{◌≡◌, ℕ, ◌+◌, List, ap, sym, refl, ◌∙◌, reverse}
+use Rattle.std.proofs.Common.{◌≡◌, ◌+◌, List, ap, sym, ◌∙◌, reverse}
 use Rattle.px_engine.specs.declared.seat.Seat.{Seat}
 use Rattle.px_engine.specs.Seats.{seat_at, begun_seat}
 use Rattle.px_engine.proofs.Seated.{seated_begin, again_count, first_count}
