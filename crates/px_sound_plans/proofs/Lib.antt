@@ -1,0 +1,3 @@
+mod Led
+mod StatementsOf
+mod PlacedWell
