@@ -1,3 +1,4 @@
 mod Led
 mod StatementsOf
 mod PlacedWell
+pub mod Laid
