@@ -1,7 +1,6 @@
 -- What is so of the blocks into which code is cut: they lead to blocks of their methods, a call ends its block, and each statement is one of the code.
-use Rattle.std.proofs.Common.{◌≡◌, ℕ, zero, suc, Bool, true, false, List, [], ◌∷◌, drop, Option, Some, None, unwrap_or, slice_get, refl, sym, ap, ◌∙◌, subst}
+use Rattle.std.proofs.Common.{◌≡◌, ℕ, zero, suc, Bool, true, false, List, [], ◌∷◌, drop, Option, Some, None, slice_get, refl, sym, ap, ◌∙◌, subst}
 use Rattle.std.specs.List.{AllByRecursion}
-use Rattle.px_normal.specs.declared.word.Operand.{Operand}
 use Rattle.px_normal.specs.declared.word.Word.{Word}
 use Rattle.px_normal.specs.declared.word.Word.TheVariants as w
 use Rattle.px_normal.specs.declared.method.Method.{Method}
@@ -12,13 +11,13 @@ use Rattle.px_blocks.specs.declared.block.Block.{Block}
 use Rattle.px_blocks.specs.declared.block.Deed.{Deed}
 use Rattle.px_blocks.specs.declared.block.Deed.TheVariants as deed
 use Rattle.px_blocks.specs.declared.block.Exit.{Exit}
-use Rattle.px_blocks.specs.declared.block.Exit.TheVariants.{Branch, Call}
+use Rattle.px_blocks.specs.declared.block.Exit.TheVariants.{Branch}
 use Rattle.px_blocks.specs.declared.block.Statement.{Statement}
 use Rattle.px_blocks.specs.Machine.{block_at, onward, chosen, entry_of}
 use Rattle.px_blocks.specs.Rules.{is_call, is_operation, Cutting, side_of, statement_of, block_of, exit_to, exit_if, first_in, Place, Amid, Anew, From, amid, anew, Joins, stays as joins_stays, begins as joins_begins, In, nothing, stays as in_stays, asks as in_asks, calls as in_calls, branches as in_branches, turns as in_turns, AreMethods, none, one}
 use Rattle.px_blocks.specs.Has.{Has, does as has_do, chooses as has_if, tests as has_test, in_yes, in_no, in_first, in_body, behind}
 use Rattle.px_blocks.proofs.Places.{at_drop, Sits, from_sits, joins_sits, sits_after, sits_on}
-use Rattle.px_blocks.proofs.Methods.{Lies, method_lies, no_first}
+use Rattle.px_blocks.proofs.Methods.{method_lies, no_first}
 
 -- one number on another, so that it computes at the next method
 abbrev plus : ℕ → ℕ → ℕ

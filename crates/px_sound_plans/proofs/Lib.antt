@@ -2,3 +2,6 @@ mod Led
 mod StatementsOf
 mod PlacedWell
 pub mod Laid
+mod WordsWhere
+mod Covered
+mod Sound
