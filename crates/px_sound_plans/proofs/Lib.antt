@@ -5,3 +5,4 @@ pub mod Laid
 mod WordsWhere
 mod Covered
 mod Sound
+mod Entries
