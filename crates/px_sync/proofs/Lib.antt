@@ -1,7 +1,7 @@
 mod SentWalk
 mod Sets
-mod Truths
-mod Keeping
+pub mod Truths
+pub mod Keeping
 mod SentWhere
 mod Putting
 mod Right
