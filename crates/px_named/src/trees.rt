@@ -12,6 +12,7 @@ use sqlite_items::Items;
 use std::alloc::{AllocError, Global};
 
 #[cycle(tree)]
+#[tactic(auto, using(crate::proofs::Forms::named_do, crate::proofs::Forms::named_if, crate::proofs::Forms::named_loop))]
 fn named_tree(
     alloc: Global,
     code: &Code,
