@@ -33,7 +33,7 @@ use Rattle.px_effects.specs.Operations.{sent as sent_values, operates_on, operat
 use Rattle.px_blocks.specs.Plan.{Part, Field, Elements, Plan, firsts_of, part_of, kept}
 use Rattle.px_blocks.specs.Machine.{Slot, Frame, just_written, values_in, slots_at, top, filled, put_in_slot, marked, named, at_home, naming, namings, Control, Machine, values_of}
 use Rattle.px_ends.specs.Runs.{IsKept, SendsName, SendsOf, SendsIf, IsGoodAct, IsGood, GoodDoes}
-use Rattle.px_ends.specs.Sends.{Reach, read_of, wrote_of, writes_now, kind_at, kind_named, is_print, Leads, IsPlaced, HasPart, LeadsThere, IsPointed, IsPointedQuery, PlacedIsGood, AnsweredIsGood}
+use Rattle.px_ends.specs.Sends.{Reach, read_of, wrote_of, writes_now, kind_at, kind_named, is_print, Leads, MayWrite, IsPlaced, HasPart, LeadsThere, IsPointed, IsPointedQuery, PlacedIsGood, AnsweredIsGood}
 use Rattle.px_ends.proofs.Places.{same_cell_true, header_some}
 use Rattle.px_ends.proofs.HeapSteps.{header_stays}
 use Rattle.px_ends.proofs.Acts.{stays}
@@ -117,6 +117,11 @@ home_fits : (plan : Plan) (word : Word) (r : Reach) (h : Header) (i : ℕ) → p
 home_fits plan (w.Put of class field a) r h i e = ap (λ p. at_home (kind_at (plan.home h.site r.part)) (plan.home h.site p)) e ∙ home_is (plan.home h.site r.part)
 home_fits plan _ r h i e = refl
 
+-- what a word writes before any answer
+may_write : (leads : Leads) (word : Word) (r : Reach) (s : ℕ) → writes_now word ≡ Some r → leads r.of s ≡ true → MayWrite leads word r s
+may_write leads (w.Query to number site params) r s e h = cc
+may_write leads _ r s e h = h
+
 not_printed : (a : Applied) (line : List ℕ) → Came a ≡ Printed line → ⊥
 not_printed a line e = cc
 
@@ -177,16 +182,16 @@ module _ (plan : Plan) (leads : Leads) (side : Side) (send : Option Send) (word 
       pick (Some h) e = let q = l h e in ap (λ p. plan.keep y h.site p) (part_is h.kind r.part i q.1 f) ∙ k h.site q.0
 
   -- the send names the cell
-  named_there : (heap : List Object) (r : Reach) (o i : ℕ) (d : Control) → wrote_of word ≡ Some r → LeadsThere leads heap r (Ref o) → FitsIndex r.part i → is_some (header_at heap o) ≡ true → operand (values_of d) r.of ≡ Ref o
+  named_there : (heap : List Object) (r : Reach) (o i : ℕ) (d : Control) → wrote_of word ≡ Some r → LeadsThere leads heap r (Ref o) → ((h : Header) → header_at heap o ≡ Some h → MayWrite leads word r h.site) → FitsIndex r.part i → is_some (header_at heap o) ≡ true → operand (values_of d) r.of ≡ Ref o
       → kept plan (other side) (header_at heap o) i ≡ true → named plan (header_at heap o) (namings send (values_of d)) o i ≡ true
-  named_there heap r o i d w l f there v k = pick (header_at heap o) refl there k
+  named_there heap r o i d w l may f there v k = pick (header_at heap o) refl there k
     where
       pick : (h : Option Header) → header_at heap o ≡ h → is_some h ≡ true → kept plan (other side) h i ≡ true → named plan h (namings send (values_of d)) o i ≡ true
       pick None e t k = cc
       pick (Some h) e t k =
           let q = l h e in
           let part : part_of h.kind i ≡ r.part = part_is h.kind r.part i q.1 f in
-          let sends = placed.sends r w h.site q.0 (ap (λ p. plan.keep (other side) h.site p) (sym part) ∙ k) in
+          let sends = placed.sends r w h.site (may h e) (ap (λ p. plan.keep (other side) h.site p) (sym part) ∙ k) in
           ap (λ z. named plan (Some h) (namings z (values_of d)) o i) sends
           ∙ ap (λ z. named plan (Some h) (naming (kind_named plan word r h.site) z) o i) v
           ∙ (λ j. (same_refl o j && home_fits plan word r h i part j) || false)
@@ -199,14 +204,14 @@ module _ (plan : Plan) (leads : Leads) (side : Side) (send : Option Send) (word 
       none false e = e
   one_cell false o i o' i' k = cc
 
-  write_sends : (heap : List Object) (r : Reach) (o i : ℕ) (v : Value) (d : Control) → wrote_of word ≡ Some r → LeadsThere leads heap r (Ref o) → FitsIndex r.part i → operand (values_of d) r.of ≡ Ref o
+  write_sends : (heap : List Object) (r : Reach) (o i : ℕ) (v : Value) (d : Control) → wrote_of word ≡ Some r → writes_now word ≡ Some r → LeadsThere leads heap r (Ref o) → FitsIndex r.part i → operand (values_of d) r.of ≡ Ref o
       → SendsName plan side (written heap o i v) (with_place_if (is_some (cell_at heap o i)) (record { object = o; index = i }) []) send d
-  write_sends heap r o i v d w l f u o' i' k h =
+  write_sends heap r o i v d w x l f u o' i' k h =
       let p = one_cell (is_some (cell_at heap o i)) o i o' i' k in
       let e : header_at (written heap o i v) o' ≡ header_at heap o = header_stays heap o i v o' ∙ ap (header_at heap) p.0 in
       let q = p.1 in
       let ke : kept plan (other side) (header_at heap o) i ≡ true = (λ j. kept plan (other side) (sym e j) (sym q.0 j)) ∙ h in
-      (λ j. named plan (e j) (namings send (values_of d)) (p.0 j) (q.0 j)) ∙ named_there heap r o i d w l f (header_some heap o i q.1) u ke
+      (λ j. named plan (e j) (namings send (values_of d)) (p.0 j) (q.0 j)) ∙ named_there heap r o i d w l (λ h e. may_write leads word r h.site x (l h e).0) f (header_some heap o i q.1) u ke
 
   module _ (pointed : IsPointed leads word m) where
     abbrev now : Slots
@@ -225,7 +230,7 @@ module _ (plan : Plan) (leads : Leads) (side : Side) (send : Option Send) (word 
           reads = tt;
           sends = subst (λ b. SendsOf b plan side send word a Null m.control) (sym no_return)
               (subst (λ to. SendsName plan side a.heap a.writes send (with_top m.control to Null)) (sym no_slot)
-              (write_sends m.heap r o i v m.control w (subst (LeadsThere leads m.heap r) u (pointed.wrote r x)) f u));
+              (write_sends m.heap r o i v m.control w x (subst (LeadsThere leads m.heap r) u (pointed.wrote r x)) f u));
           prints = λ line e. absurd (not_printed _ line e);
         }
 
@@ -238,7 +243,7 @@ module _ (plan : Plan) (leads : Leads) (side : Side) (send : Option Send) (word 
           reads = (ap (λ z. kept plan side z 0) (header_stays m.heap o 0 x o) ∙ read_kept r o 0 w v f, tt);
           sends = subst (λ z. SendsOf z plan side send word a b m.control) (sym no_return)
               (subst (λ z. SendsName plan side a.heap a.writes send (with_top m.control z b)) (sym slot)
-              (write_sends m.heap r o 0 x (with_top m.control (Some to) b) u (subst (LeadsThere leads m.heap r) v (pointed.wrote r y)) f (operand_stays m.control to b r.of e ∙ v)));
+              (write_sends m.heap r o 0 x (with_top m.control (Some to) b) u y (subst (LeadsThere leads m.heap r) v (pointed.wrote r y)) f (operand_stays m.control to b r.of e ∙ v)));
           prints = λ line q. absurd (not_printed _ line q);
         }
 
@@ -365,7 +370,7 @@ module _ (plan : Plan) (leads : Leads) (side : Side) (send : Option Send) (m : M
           let p : o' ≡ o = all_writes plan o 1 values heap o' i' x in
           let ke : kept plan (other side) (header_at after.heap o) i' ≡ true = ap (λ z. kept plan (other side) (header_at after.heap z) i') (sym p) ∙ k in
           (λ j. named plan (header_at after.heap (p j)) (namings send (values_of (with_top m.control (Some to) (Ref o)))) (p j) i')
-          ∙ named_there plan leads side send query placed m after.heap r o i' (with_top m.control (Some to) (Ref o)) refl led tt (ap is_some now_there) (operand_comes m.control to (Ref o) pointed.1) ke
+          ∙ named_there plan leads side send query placed m after.heap r o i' (with_top m.control (Some to) (Ref o)) refl led (λ h' x. ap (λ (z : Header). z.site) (same_some h' h (sym x ∙ now_there))) tt (ap is_some now_there) (operand_comes m.control to (Ref o) pointed.1) ke
 
   rows_good : (answer : Answer) → IsGood plan side send query (make_rows number site answer) m
   rows_good (Rows width cells) =

@@ -80,10 +80,15 @@ is_print _ = false
 abbrev pub Leads : Type 0
 Leads = Operand → ℕ → Bool
 
+-- the word may write objects of the site: those to which the operand may lead; a query writes the one that it makes
+abbrev pub MayWrite : Leads → Word → Reach → ℕ → Type 0
+MayWrite leads (w.Query to number site params) r s = s ≡ site
+MayWrite leads _ r s = leads r.of s ≡ true
+
 -- A word with its send where a plan puts it: its side keeps what it may read; the send names what it may write and the other side keeps; it prints at APP alone.
 pub record IsPlaced (plan : Plan) (leads : Leads) (side : Side) (send : Option Send) (word : Word) : Type 0 where
   pub reads : (r : Reach) → read_of word ≡ Some r → (site : ℕ) → leads r.of site ≡ true → plan.keep side site r.part ≡ true
-  pub sends : (r : Reach) → wrote_of word ≡ Some r → (site : ℕ) → leads r.of site ≡ true → plan.keep (other side) site r.part ≡ true → send ≡ Some (send_of plan word r site)
+  pub sends : (r : Reach) → wrote_of word ≡ Some r → (site : ℕ) → MayWrite leads word r site → plan.keep (other side) site r.part ≡ true → send ≡ Some (send_of plan word r site)
   pub prints : is_print word ≡ true → side ≡ App
 
 -- ---- in a run

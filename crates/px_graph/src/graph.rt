@@ -9,7 +9,7 @@ use crate::loads::load_of;
 use px_code::Placement;
 use sqlite_items::Items;
 
-/// The nodes that go with a method, by number: its own, those of its statements but prints, and those of the sites in it.
+/// The nodes that stand in a method, by number: its own, those of its statements, and those of the sites in it. A move takes the free ones.
 #[derive(Drop)]
 pub struct Group {
     pub nodes: Items<u32>,

@@ -1,0 +1,8 @@
+mod Led
+mod StatementsOf
+mod PlacedWell
+pub mod Laid
+mod WordsWhere
+mod Covered
+mod Sound
+mod Entries

@@ -1,0 +1,5 @@
+pub mod Homes
+pub mod Keeps
+pub mod Sends
+pub mod Found
+pub mod Law
