@@ -1,7 +1,8 @@
 //! The text of a history, where its numbers are of all sizes and what is printed is escaped.
 use px_code::{Done, Event, Reply};
 use px_report::report_text;
-use px_value::{Text, Thrown, Value};
+use px_rows::Tables;
+use px_value::{Schema, Text, Thrown, Value};
 use sqlite_items::Items;
 use std::alloc::{AllocError, Global};
 use std::test::Fail;
@@ -134,9 +135,13 @@ fn events(alloc: Global, case: &Case) -> Result<Vec<Event>, AllocError> {
 fn histories(rt: HostRuntime) -> Result<(), Fail> {
     let alloc = rt.alloc();
     let parts = texts(alloc, &PARTS)?;
+    let schema = Schema {
+        tables: Items::new(alloc),
+    };
+    let tables = Tables::new(alloc, &schema)?;
     for case in &CASES {
         let events = events(alloc, case)?;
-        let text = report_text(alloc, &[], &parts, &events, &[])?;
+        let text = report_text(alloc, &[], &schema, &parts, &events, &tables, &[])?;
         assert_eq!(rt; text.as_slice(), case.text.as_bytes());
     }
     Ok(())
