@@ -1,5 +1,5 @@
 -- What holds of an accepted program and of its code.
-use Rattle.std.proofs.Common.{◌≡◌, ℕ, ◌+◌, ◌≤◌, ◌<◌, ◌^◌, List, length, map, Option, Some, None, Result, Ok, Err, IfOk, slice_get, refl, sym, ap, ◌∙◌, subst, arith}
+use Rattle.std.proofs.Common.{◌≡◌, ℕ, ◌+◌, ◌≤◌, ◌<◌, ◌^◌, List, length, Option, Some, None, Result, Ok, Err, slice_get, refl, sym, subst, arith}
 use Rattle.px_value.specs.declared.schema.Schema.{Schema}
 use Rattle.px_value.specs.declared.value.Value.{Value}
 use Rattle.px_value.specs.declared.object.Object.{Object}
@@ -17,7 +17,6 @@ use Rattle.px_rules.specs.Checked.{checked_of}
 use Rattle.px_semantics.specs.Program.{source_from}
 use Rattle.px_semantics.specs.Entry.{exec}
 use Rattle.px_normal.specs.declared.method.Method.{Method}
-use Rattle.px_normal.specs.declared.code.Code.{Code}
 use Rattle.px_normal.specs.First.{numbered}
 use Rattle.px_normal.specs.Run.{untraced}
 use Rattle.px_normal.specs.CodeRun.{code_run}
@@ -27,7 +26,6 @@ use Rattle.px_preservation.specs.Laws.{AreKnown}
 use Rattle.px_preservation.proofs.Whole.{keeps_meaning}
 use Rattle.px_typed_code.specs.Laws.{IsEntryOf}
 use Rattle.px_typed_code.proofs.Programs.{lowered_is_typed, entries_are_methods}
-use Rattle.px_soundness.specs.Laws.{IsAccepted}
 use Rattle.px_soundness.proofs.Accepted.{accepted_typed}
 use Rattle.px_soundness.proofs.Texts.{program_classes}
 use Rattle.px_accepted.specs.Limits.{KeepsLimits}
@@ -37,7 +35,7 @@ use Rattle.px_accepted.proofs.UsedWell.{accepted_is_used_well}
 use Rattle.px_accepted.proofs.AcceptedSlots.{accepted_slots_are_few}
 use Rattle.px_accepted.proofs.Limits.{accepted_keeps_limits}
 use Rattle.px_straight.specs.Laws.{IsSmall}
-use Rattle.px_main.specs.Whole.{Found, by_rules, by_tables, IsFound, ungrammatical, grammatical, JudgesWhole}
+use Rattle.px_main.specs.Whole.{by_rules, by_tables, IsFound, ungrammatical, grammatical, JudgesWhole}
 use Rattle.px_main.specs.Known.{IsKnown}
 
 -- ---- what is found without a fault is known

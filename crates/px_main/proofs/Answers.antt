@@ -1,5 +1,5 @@
 -- The files fix the answer.
-use Rattle.std.proofs.Common.{◌≡◌, ℕ, false, ◌≤◌, ◌⊎◌, inl, inr, List, [], ◌∷◌, map, Option, Some, None, Result, Ok, Err, refl, sym, ap, ◌∙◌, subst, IfSome, arith}
+use Rattle.std.proofs.Common.{◌≡◌, ℕ, List, [], map, Option, Some, None, Result, Ok, Err, refl, sym, ap, ◌∙◌, subst, IfSome, arith}
 use Rattle.px_facts.specs.declared.checked.Checked.{Checked}
 use Rattle.px_tree.specs.declared.Program.{Program}
 use Rattle.px_sql.specs.Tables.{schema_of}
@@ -14,13 +14,12 @@ use Rattle.px_job.specs.declared.job.Job.{Job}
 use Rattle.px_job.specs.declared.job.JobFault.{JobFault}
 use Rattle.px_main.specs.declared.command.Kind.{Kind}
 use Rattle.px_main.specs.declared.command.Kind.TheVariants.{Run, Solo}
-use Rattle.px_main.specs.declared.fault.Fault.{Fault}
 use Rattle.px_main.specs.declared.fault.ProgramCode.TheVariants.{Syntax}
 use Rattle.px_main.specs.Commands.{Command, Checks, Serves}
 use Rattle.px_main.specs.Whole.{Found, IsFound, ungrammatical, grammatical, JudgesWhole, fault_at, by_tables}
 use Rattle.px_main.specs.Run.{class_names, tables_of, run_of}
 use Rattle.px_main.specs.Solo.{by_source, asked, code_of, placement_of, part_name, history_of, AreDone, IsReport}
-use Rattle.px_main.specs.Answers.{Answer, taken, JudgesSplit, AnswersCalls, AnswersSplit, Answering, answers_run, answers_solo, job_for, solo_job_for, AnswersJob, AnswersProgram, Judging, IsAnswerBy, IsAnswer, IsChecked, check_answer, Holds, AllowsCheck, AllowsBoth, FixesBoth, FixesCheck, FixesStatusBoth, FixesStatusCheck, Fixes, Reading, HasStatusBy, HasStatus, HasCheckStatus, status_read, status_of_job, status_of, kept, max_program, max_job}
+use Rattle.px_main.specs.Answers.{Answer, taken, JudgesSplit, AnswersCalls, AnswersSplit, Answering, answers_run, answers_solo, job_for, solo_job_for, AnswersJob, AnswersProgram, Judging, IsAnswerBy, IsAnswer, IsChecked, check_answer, Holds, AllowsCheck, AllowsBoth, FixesBoth, FixesCheck, FixesStatusBoth, FixesStatusCheck, Fixes, Reading, HasStatusBy, HasStatus, status_read, status_of_job, status_of, kept, max_program, max_job}
 
 -- ---- what is found in a text is fixed
 

@@ -1,24 +1,15 @@
 -- What two ends serve by the code, they serve by the source.
-use Rattle.std.proofs.Common.{◌≡◌, ℕ, zero, suc, ◌+◌, List, [], ◌∷◌, length, map, Option, Some, None, Result, Ok, Err, slice_get, option_map, refl, sym, ap, ◌∙◌, subst}
-use Rattle.std.specs.List.{AllByRecursion}
-use Rattle.std.proofs.lemmas.List.{length-map}
-use Rattle.px_value.specs.declared.ty.Ty.{Ty}
+use Rattle.std.proofs.Common.{◌≡◌, ℕ, zero, suc, List, [], ◌∷◌, length, map, Some, None, Ok, slice_get, refl, sym, ap, ◌∙◌, subst}
 use Rattle.px_value.specs.declared.value.Value.{Value}
 use Rattle.px_value.specs.declared.object.Object.{Object}
 use Rattle.px_value.specs.declared.header.Kind.TheVariants as kind
-use Rattle.px_value.specs.Outcome.{Outcome, Gives, Throws, Asks}
+use Rattle.px_value.specs.Outcome.{Gives, Throws, Asks}
 use Rattle.px_value.specs.Defaults as plain
 use Rattle.px_facts.specs.declared.checked.Checked.{Checked}
-use Rattle.px_facts.specs.declared.checked.Entry.{Entry}
-use Rattle.px_effects.specs.Run.{Ask, Shared}
 use Rattle.px_code.specs.declared.code.Code.{Code as SimpleCode}
-use Rattle.px_code.specs.declared.class.Class.{Class as SimpleClass}
 use Rattle.px_code.specs.declared.class.Field.{Field as SimpleField}
 use Rattle.px_code.specs.declared.plan.Plan.{Plan}
 use Rattle.px_code.specs.declared.reply.Done.{Done}
-use Rattle.px_code.specs.declared.reply.Reply.TheVariants as reply
-use Rattle.px_code.specs.declared.reply.Shown.{Shown}
-use Rattle.px_code.specs.CodeRun.{Traced as SimpleTraced}
 use Rattle.px_code.specs.Sound.{CodeOutcome, run_of as simple_run}
 use Rattle.px_code.specs.Stale.{Event}
 use Rattle.px_half.specs.End.{fields_of as types_in, class_defaults, first_object}
@@ -26,20 +17,18 @@ use Rattle.px_rows.specs.Tables.{Tables}
 use Rattle.px_semantics.specs.Asks.{by_tables}
 use Rattle.px_semantics.specs.Facts as source
 use Rattle.px_semantics.specs.Program.{source_from}
-use Rattle.px_semantics.specs.Entry.{Called as Meant, ended, exec, call_of, first_heap}
+use Rattle.px_semantics.specs.Entry.{Called as Meant, ended, exec, first_heap}
 use Rattle.px_normal.specs.declared.ty.Ty.{Ty as CodeTy}
 use Rattle.px_normal.specs.declared.ty.Ty.TheVariants as code_ty
 use Rattle.px_normal.specs.declared.class.Class.{Class}
 use Rattle.px_normal.specs.declared.class.Field.{Field}
-use Rattle.px_normal.specs.declared.code.Code.{Code}
-use Rattle.px_normal.specs.First.{default_of, field_default, fields_in, fields_of, fresh_of}
+use Rattle.px_normal.specs.First.{default_of, field_default, fields_in}
 use Rattle.px_normal.specs.Run.{untraced}
-use Rattle.px_normal.specs.CodeRun.{code_run}
 use Rattle.px_lowering.specs.Programs.{lowered}
 use Rattle.px_preservation.proofs.Program.{same_program}
-use Rattle.px_straight.specs.Simple.{simple_type, simple_field, simple_class, simple_code}
+use Rattle.px_straight.specs.Simple.{simple_type, simple_field, simple_class}
 use Rattle.px_straight.specs.Straight.{straight}
-use Rattle.px_straight.specs.Laws.{told, told_run}
+use Rattle.px_straight.specs.Laws.{told_run}
 use Rattle.px_straight.proofs.Whole.{keeps_numbers}
 use Rattle.px_straight.proofs.Runs.{runs_as_code}
 use Rattle.px_session.specs.Serving.{Call, Called, Calling, called_as, by_code, IsServed, AreServed, none, more}

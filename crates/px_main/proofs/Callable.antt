@@ -1,5 +1,5 @@
 -- The calls of a job are calls of the code.
-use Rattle.std.proofs.Common.{◌≡◌, ℕ, suc, true, List, [], ◌∷◌, length, map, Option, Some, None, Ok, slice_get, refl, sym, ap, ◌∙◌, subst}
+use Rattle.std.proofs.Common.{◌≡◌, ℕ, suc, List, [], ◌∷◌, length, map, Option, Some, Ok, slice_get, refl, sym, ap, ◌∙◌, subst}
 use Rattle.std.specs.List.{AllByRecursion}
 use Rattle.px_value.specs.declared.ty.Ty.{Ty}
 use Rattle.px_value.specs.declared.value.Value.{Value}
@@ -14,11 +14,9 @@ use Rattle.px_lowering.specs.Programs.{lowered}
 use Rattle.px_straight.specs.Simple.{simple_method}
 use Rattle.px_straight.specs.Straight.{straight}
 use Rattle.px_straight.proofs.Whole.{entries}
-use Rattle.px_typed_code.specs.Laws.{IsEntryOf}
 use Rattle.px_job.specs.declared.job.Call.{Call as JobCall}
 use Rattle.px_job.specs.Fitting.{HaveTypes}
 use Rattle.px_job.specs.Short.{HasPlainArguments, HasShortText as IsShort}
-use Rattle.px_session.specs.Serving.{Call}
 use Rattle.px_main.specs.Known.{IsKnown}
 use Rattle.px_main.specs.Served.{IsCall, AreCalls}
 use Rattle.px_main.specs.Solo.{method_at, asked}

@@ -1,6 +1,5 @@
 -- The plan of a program, and the calls that it serves.
-use Rattle.std.proofs.Common.{◌≡◌, List, [], ◌∷◌, ◌++◌, map, Some, Result, Ok, Err, IfOk, slice_get, sym, ap, ◌∙◌, subst}
-use Rattle.std.specs.List.{AllByRecursion}
+use Rattle.std.proofs.Common.{◌≡◌, List, [], ◌∷◌, ◌++◌, Some, Result, Ok, Err, IfOk, slice_get, sym, ap, ◌∙◌, subst}
 use Rattle.px_code.specs.declared.code.Code.{Code}
 use Rattle.px_code.specs.declared.plan.Plan.{Plan}
 use Rattle.px_code.specs.declared.placement.Placement.{Placement}

@@ -1,5 +1,5 @@
 -- What two ends show of a session's calls is what the serial run shows.
-use Rattle.std.proofs.Common.{◌≡◌, ℕ, List, [], ◌∷◌, map, Option, Some, None, Result, Ok, slice_get, refl, sym, ap, ◌∙◌, subst}
+use Rattle.std.proofs.Common.{◌≡◌, ℕ, List, [], ◌∷◌, map, Option, Some, Ok, slice_get, refl, sym, ap, ◌∙◌}
 use Rattle.std.specs.List.{AllByRecursion}
 use Rattle.px_value.specs.declared.value.Value.{Value}
 use Rattle.px_value.specs.declared.object.Object.{Object}
@@ -8,7 +8,6 @@ use Rattle.px_facts.specs.declared.checked.Entry.{Entry}
 use Rattle.px_code.specs.declared.code.Code.{Code as SimpleCode}
 use Rattle.px_code.specs.declared.plan.Plan.{Plan}
 use Rattle.px_code.specs.declared.reply.Done.{Done}
-use Rattle.px_code.specs.declared.reply.Reply.{Reply}
 use Rattle.px_code.specs.declared.reply.Shown.{Shown}
 use Rattle.px_code.specs.Stale.{Event}
 use Rattle.px_rows.specs.Tables.{Tables}
@@ -24,7 +23,7 @@ use Rattle.px_session.specs.Serving.{IsServed, AreServed, none, more}
 use Rattle.px_main.specs.Known.{IsKnown}
 use Rattle.px_main.specs.Run.{wanted}
 use Rattle.px_main.specs.Solo.{method_at, asked, by_source, shown_by}
-use Rattle.px_main.proofs.BySource.{with_world, same_ended}
+use Rattle.px_main.proofs.BySource.{same_ended}
 
 -- a call of the one session, and of an entry that there is
 pub record IsOwn (entries : List Entry) (call : JobCall) : Type 0 where

@@ -5,15 +5,12 @@ use Rattle.px_facts.specs.declared.checked.Checked.{Checked}
 use Rattle.px_facts.specs.declared.checked.Entry.{Entry}
 use Rattle.px_code.specs.declared.code.Code.{Code}
 use Rattle.px_code.specs.declared.placement.Placement.{Placement}
-use Rattle.px_code.specs.declared.plan.Plan.{Plan}
 use Rattle.px_code.specs.declared.reply.Done.{Done}
 use Rattle.px_code.specs.WellFormed.{IsWellFormed}
 use Rattle.px_semantics.specs.Asks.{by_tables}
 use Rattle.px_semantics.specs.Program.{source_from}
-use Rattle.px_semantics.specs.Entry.{first_heap}
 use Rattle.px_semantics.specs.Serial.{serial}
 use Rattle.px_lowering.specs.Programs.{lowered}
-use Rattle.px_straight.specs.Straight.{straight}
 use Rattle.px_straight.proofs.WellFormed.{is_well_formed}
 use Rattle.px_job.specs.declared.job.Call.{Call as JobCall}
 use Rattle.px_job.specs.declared.job.Job.{Job}
@@ -28,10 +25,9 @@ use Rattle.px_job.proofs.ShortTexts.{texts_are_short}
 use Rattle.px_job.proofs.OneSession.{taken_is_of_one_session}
 use Rattle.px_session.specs.Serving.{Call}
 use Rattle.px_main.specs.Answers.{taken_if, job_for}
-use Rattle.px_main.specs.Known.{IsKnown}
-use Rattle.px_main.specs.Run.{wanted, tables_of, run_of}
+use Rattle.px_main.specs.Run.{wanted, tables_of}
 use Rattle.px_main.specs.Served.{AreCalls, AreServedBy, IsTaken}
-use Rattle.px_main.specs.Solo.{asked, placement_of, IsPlanOf, shown_by, AreDone}
+use Rattle.px_main.specs.Solo.{asked, placement_of, IsPlanOf, AreDone}
 use Rattle.px_main.proofs.Accepted.{typed_code, is_small}
 use Rattle.px_main.proofs.BySource.{simple_is, as_source}
 use Rattle.px_main.proofs.Callable.{IsFitting, all_callable}

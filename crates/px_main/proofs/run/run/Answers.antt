@@ -1,4 +1,4 @@
-use Rattle.std.proofs.Common.{◌≡◌, ℕ, List, map, Vec, Global, IfOk, sym, ap, ◌∙◌}
+use Rattle.std.proofs.Common.{ℕ, List, map, Vec, Global, ap, ◌∙◌}
 use Rattle.px_tree.specs.declared.Class.{Class}
 use Rattle.px_job.specs.declared.job.Call.{Call}
 use Rattle.px_main.specs.Run.{no_counts, shown_from}

@@ -1,4 +1,4 @@
-use Rattle.std.proofs.Common.{ℕ, List, map, Vec, Global, ap, ◌∙◌}
+use Rattle.std.proofs.Common.{ℕ, map, Vec, Global, ap, ◌∙◌}
 use Rattle.px_tree.specs.declared.Class.{Class}
 use Rattle.px_main.specs.Solo.{part_name}
 use Rattle.px_main.proofs.Reported.{reported}
