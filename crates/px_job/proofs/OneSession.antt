@@ -58,9 +58,9 @@ last_later : (parted more : Bool) (last : Option Part) → LastBy parted last �
 last_later true more last p = p
 last_later false more None p = last_none more
   where
-  last_none : (more : Bool) → LastBy more None
-  last_none true = tt
-  last_none false = tt
+    last_none : (more : Bool) → LastBy more None
+    last_none true = tt
+    last_none false = tt
 last_later false more (Some part) p = absurd p
 
 later : (sessions : ℕ) (parted more : Bool) (draft : Draft) → IsSingle sessions parted draft → IsSingle sessions (parted || more) draft
@@ -211,7 +211,7 @@ taken_is_of_one_session P schema code bytes job e none =
     let drafted : Result Draft JobFault = drafted_from by 1 (nothing_yet sessions) lines in
     let begins : IsSingle sessions false (nothing_yet sessions) = record { before = refl; last = tt; loads = refl; order = refl } in
     let single : IfOk drafted (λ draft. IsOfOnePart sessions (job_with code settings draft)) =
-      taken_keep by (IsSingle sessions) (λ draft. IsOfOnePart sessions (job_with code settings draft)) (line_single by sessions) (job_is_of_one code settings sessions) 1 false (nothing_yet sessions) lines none begins in
+    taken_keep by (IsSingle sessions) (λ draft. IsOfOnePart sessions (job_with code settings draft)) (line_single by sessions) (job_is_of_one code settings sessions) 1 false (nothing_yet sessions) lines none begins in
     let one : IsOfOnePart sessions job = of_job (IsOfOnePart sessions) (finished code settings drafted) job e (finished_of_one code settings sessions drafted single) in
     let same : job.settings ≡ settings = of_job (λ j. j.settings ≡ settings) (finished code settings drafted) job e (settings_stay code settings drafted) in
     let fits : Fits P.facts.main.entries schema.tables code job = of_job (Fits P.facts.main.entries schema.tables code) (finished code settings drafted) job e (jobs_fit P schema code bytes) in

@@ -124,7 +124,9 @@ fn answer_solo(alloc: Global, split: Split, bytes: &[u8]) -> Result<Prepared, Al
     match read_taken(alloc, &split, bytes) {
         Ok(job) => {
             let Split {
-                checked, simple, ..
+                checked,
+                simple,
+                ..
             } = split;
             let text = solo(alloc, &checked, simple, &job)?;
             Ok(Prepared { status: 0, text })
@@ -135,11 +137,7 @@ fn answer_solo(alloc: Global, split: Split, bytes: &[u8]) -> Result<Prepared, Al
 }
 
 // The answer of `run` for a program that is accepted.
-fn run_job(
-    alloc: Global,
-    checked: &Checked,
-    job: &Option<Vec<u8>>,
-) -> Result<Prepared, AllocError>
+fn run_job(alloc: Global, checked: &Checked, job: &Option<Vec<u8>>) -> Result<Prepared, AllocError>
     requires { IfSome job.now (λ bytes. length bytes.items ≤ max_job) }
     ensures { IfOk result (λ a. AnswersJob answers_run checked.now (option_map (λ v. v.items) job.now) (a.status, a.text.items)) }
 {

@@ -79,5 +79,11 @@ pub fn run_serial(alloc: Global, checked: &Checked, job: &Job) -> Result<Ran, Al
 {
     let wanted = wanted_calls(alloc, job.calls.as_slice())?;
     let tables = load_rows(alloc, &checked.schema, job.rows.as_slice())?;
-    serve(alloc, checked, tables, job.settings.sessions, wanted.as_slice())
+    serve(
+        alloc,
+        checked,
+        tables,
+        job.settings.sessions,
+        wanted.as_slice(),
+    )
 }
