@@ -1,5 +1,5 @@
 -- A job without a line that two ends don't take yet is of one session and one part.
-use Rattle.std.proofs.Common.{◌≡◌, ℕ, ◌+◌, ◌≤◌, ◌==◌, Bool, true, false, ◌||◌, List, [], ◌∷◌, ◌++◌, length, replicate, slice_index, Option, Some, None, IfSome, unwrap_or, Result, Ok, Err, IfOk, if◌then◌else◌, refl, sym, ap, ◌∙◌, subst, arith}
+use Rattle.std.proofs.Common.{◌≡◌, ℕ, ◌==◌, Bool, true, false, ◌||◌, List, [], ◌∷◌, ◌++◌, length, replicate, slice_index, Option, Some, None, unwrap_or, Result, Ok, Err, IfOk, if◌then◌else◌, refl, sym, ap, ◌∙◌, subst, arith}
 use Rattle.std.specs.List.{AllByRecursion}
 use Rattle.std.specs.Option.{is_some, option_map}
 use Rattle.px_code.specs.declared.side.Side.{Side}
@@ -13,12 +13,12 @@ use Rattle.px_job.specs.Selecting.{is_selector, selected}
 use Rattle.px_job.specs.Settings.{nothing_stood, settings_of}
 use Rattle.px_job.specs.Rows.{judged_row}
 use Rattle.px_job.specs.Calls.{judged_call}
-use Rattle.px_job.specs.Parts.{full, bounds_of, with_budget, has_budget, begun, last_of, new_part, part_rules, with_part, part_by, judged_part, placed, side_rules, side_of, judged_side, parts_or_app}
+use Rattle.px_job.specs.Parts.{bounds_of, with_budget, has_budget, begun, last_of, new_part, part_rules, with_part, part_by, judged_part, placed, side_rules, side_of, judged_side, parts_or_app}
 use Rattle.px_job.specs.Verbs.{verb_of}
 use Rattle.px_job.specs.Judging.{Against, judged_setting, with_stood, with_row, with_parts, with_call, judged_form, judged_words, has_high_byte, judged}
 use Rattle.px_job.specs.Jobs.{noted_from, drafted_from, nothing_yet, finished, job_with, against_with, job_of}
-use Rattle.px_job.specs.Beyond.{beyond_by, is_beyond, is_part_verb, begins_part, beyond_from}
-use Rattle.px_job.specs.Fitting.{IsSession, IsCallOf, IsPartOf, EndFull, Fits}
+use Rattle.px_job.specs.Beyond.{beyond_by, is_beyond, is_part_verb, begins_part}
+use Rattle.px_job.specs.Fitting.{IsCallOf, IsPartOf, EndFull, Fits}
 use Rattle.px_job.specs.OneSession.{IsOfOneSession, TakenIsOfOneSession}
 use Rattle.px_job.specs.declared.settings.Settings.{Settings}
 use Rattle.px_job.specs.declared.settings.Stood.{Stood}
@@ -56,11 +56,7 @@ record IsSingle (sessions : ℕ) (parted : Bool) (draft : Draft) : Type 0 where
 
 last_later : (parted more : Bool) (last : Option Part) → LastBy parted last → LastBy (parted || more) last
 last_later true more last p = p
-last_later false more None p = last_none more
-  where
-    last_none : (more : Bool) → LastBy more None
-    last_none true = tt
-    last_none false = tt
+last_later false more None p = tt
 last_later false more (Some part) p = absurd p
 
 later : (sessions : ℕ) (parted more : Bool) (draft : Draft) → IsSingle sessions parted draft → IsSingle sessions (parted || more) draft

@@ -1,8 +1,8 @@
 -- The arguments of a job's calls are no references, and their texts are short.
-use Rattle.std.proofs.Common.{◌≡◌, ℕ, ◌+◌, ◌==◌, ◌≤◌, ◌<◌, nat_le, Bool, true, false, ◌&&◌, ◌||◌, List, [], ◌∷◌, ◌++◌, length, slice_index, slice_get, Option, Some, None, IfSome, unwrap_or, Result, Ok, Err, IfOk, if◌then◌else◌, refl, arith}
+use Rattle.std.proofs.Common.{◌≡◌, ℕ, ◌==◌, ◌<◌, nat_le, Bool, true, false, ◌&&◌, ◌||◌, List, [], ◌∷◌, length, slice_index, slice_get, Option, Some, None, IfSome, Result, Ok, Err, IfOk, if◌then◌else◌, refl, arith}
 use Rattle.std.specs.List.{AllByRecursion, list_all, list_any}
 use Rattle.std.specs.Option.{is_some, option_map, option_and_then}
-use Rattle.std.proofs.lemmas.Bool.{leb-true, leb-false, false≢true}
+use Rattle.std.proofs.lemmas.Bool.{leb-true, leb-false}
 use Rattle.px_value.specs.Limits.{max_text}
 use Rattle.px_value.specs.declared.ty.Ty.{Ty}
 use Rattle.px_value.specs.declared.ty.Ty.TheVariants as types
@@ -26,9 +26,9 @@ use Rattle.px_job.specs.Loads.{judged_load, judged_order}
 use Rattle.px_job.specs.Calls.{arguments_for, call_rules, made_call, call_with, call_to, judged_call}
 use Rattle.px_job.specs.Verbs.{verb_of}
 use Rattle.px_job.specs.Judging.{Against, judged_setting, with_stood, with_row, with_parts, with_call, with_loads, with_order, judged_form, judged_words, has_high_byte, judged}
-use Rattle.px_job.specs.Jobs.{noted_from, drafted_from, nothing_yet, finished, against_with, job_under, job_of}
+use Rattle.px_job.specs.Jobs.{noted_from, drafted_from, nothing_yet, finished, against_with, job_of}
 use Rattle.px_job.specs.Settings.{nothing_stood, settings_of}
-use Rattle.px_job.specs.Short.{IsShortAscii, HasShortText, HasPlainArguments, TextsAreShort}
+use Rattle.px_job.specs.Short.{HasShortText, HasPlainArguments, TextsAreShort}
 use Rattle.px_job.specs.declared.settings.Settings.{Settings}
 use Rattle.px_job.specs.declared.settings.Stood.{Stood}
 use Rattle.px_job.specs.declared.parts.Parts.{Parts}

@@ -1,8 +1,8 @@
-mod Led
-mod StatementsOf
-mod PlacedWell
+pub mod Led
+pub mod StatementsOf
+pub mod PlacedWell
 pub mod Laid
-mod WordsWhere
-mod Covered
-mod Sound
-mod Entries
+pub mod WordsWhere
+pub mod Covered
+pub mod Sound
+pub mod Entries

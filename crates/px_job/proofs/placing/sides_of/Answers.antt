@@ -1,4 +1,4 @@
-use Rattle.std.proofs.Common.{List, map, Option, Some, ap, ◌∙◌}
+use Rattle.std.proofs.Common.{List, map, Some, ap, ◌∙◌}
 use Rattle.px_code.specs.declared.side.Side.{Side}
 use Rattle.px_job.specs.Placing.{sides_or_app}
 use Rattle.px_job.proofs.PlacingMore.{all_set}

@@ -1,0 +1,4 @@
+//! Accepted programs run at two ends as they mean.
+#![tactic(auto)]
+
+pub mod law;
