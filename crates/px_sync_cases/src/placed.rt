@@ -1,4 +1,7 @@
 //! The sends of a program at a placement, as text.
+ghost use Rattle.std.specs.Prelude.{IfOk, IfSome};
+ghost use Rattle.px_flow_points.specs.There.{NumbersExist};
+
 use px_blocks::{Placed, Send, SendKind, Side};
 use px_flow_points::points_to;
 use px_grammar::parse;
@@ -13,18 +16,25 @@ use std::alloc::{AllocError, Global};
 // The most bytes of a text that these tests read, as of a file.
 const MOST: usize = 1_048_576;
 
+fn is_among(node: usize, at_db: &[u32]) -> bool {
+    for other in at_db {
+        if *other as usize == node {
+            return true;
+        }
+    }
+    false
+}
+
 // These nodes are at DB, and all others at APP.
 fn sides_of(alloc: Global, count: usize, at_db: &[u32]) -> Result<Items<Side>, AllocError> {
     let mut sides = Items::new(alloc);
-    let mut node: usize = 1;
-    while node <= count {
-        let side = if at_db.iter().any(|n| *n as usize == node) {
+    for before in 0..count {
+        let side = if is_among(before + 1, at_db) {
             Side::Db
         } else {
             Side::App
         };
         sides.push(side)?;
-        node += 1;
     }
     Ok(sides)
 }
@@ -55,19 +65,19 @@ fn text_of(alloc: Global, placed: &Placed) -> Result<String, AllocError> {
     Ok(text)
 }
 
-fn placed_text(alloc: Global, code: &Code, at_db: &[u32]) -> Result<String, AllocError> {
+fn placed_text(alloc: Global, code: &Code, at_db: &[u32]) -> Result<String, AllocError>
+    requires { NumbersExist code.now }
+{
     let points = points_to(alloc, code)?;
     let sides = sides_of(alloc, code.nodes.len(), at_db)?;
     let placed = place_sends(alloc, code, &points, sides)?;
     text_of(alloc, &placed)
 }
 
-/// Nothing where the program isn't accepted.
-pub fn sends_of(
-    alloc: Global,
-    bytes: &[u8],
-    at_db: &[u32],
-) -> Result<Option<String>, AllocError> {
+// The code of a program that is accepted.
+fn code_of(alloc: Global, bytes: &[u8]) -> Result<Option<Code>, AllocError>
+    ensures { IfOk result (λ code. IfSome code NumbersExist) }
+{
     if bytes.len() > MOST {
         return Ok(None);
     }
@@ -81,6 +91,14 @@ pub fn sends_of(
         return Ok(None);
     };
     let code = lower(alloc, &checked)?;
+    Ok(Some(code))
+}
+
+/// Nothing where the program isn't accepted.
+pub fn sends_of(alloc: Global, bytes: &[u8], at_db: &[u32]) -> Result<Option<String>, AllocError> {
+    let Some(code) = code_of(alloc, bytes)? else {
+        return Ok(None);
+    };
     let text = placed_text(alloc, &code, at_db)?;
     Ok(Some(text))
 }
