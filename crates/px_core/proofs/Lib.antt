@@ -1,2 +1,2 @@
-pub mod Stamps
-pub mod Steps
+pub mod Keeping
+pub mod Kept

@@ -11,3 +11,8 @@ pub mod FittingValues
 pub mod FittingLines
 pub mod FittingParts
 pub mod FittingJobs
+pub mod DraftsKept
+pub mod ShortTexts
+pub mod OneSessionSettings
+pub mod OneSession
+pub mod PlacingMore

@@ -25,3 +25,6 @@ pub mod Beyond
 pub mod Filing
 pub mod Spelling
 pub mod Fitting
+pub mod Short
+pub mod OneSession
+pub mod Placing

@@ -2,6 +2,8 @@
 
 ghost use Rattle.px_job.specs.Filing.{LinesAreFiled};
 ghost use Rattle.px_job.specs.Fitting.{JobsFit};
+ghost use Rattle.px_job.specs.OneSession.{TakenIsOfOneSession};
+ghost use Rattle.px_job.specs.Short.{TextsAreShort};
 ghost use Rattle.px_job.specs.Spelling.{WordsAreSpelled};
 
 /// The lines that are read are those that stand in the file.
@@ -20,4 +22,16 @@ pub fn words_are_spelled()
 /// where it has no budget, and prints at APP.
 pub fn jobs_fit()
     ensures { JobsFit }
+{}
+
+/// The arguments of a job's calls are no references, and their texts are within their limit and of
+/// ASCII.
+pub fn texts_are_short()
+    ensures { TextsAreShort }
+{}
+
+/// A job without a line that two ends don't take yet has one session and one part, which places each
+/// node.
+pub fn taken_is_of_one_session()
+    ensures { TakenIsOfOneSession }
 {}

@@ -20,6 +20,7 @@ mod names;
 mod numbers;
 mod parts;
 mod places;
+mod placing;
 mod prints;
 mod read;
 mod rows;
@@ -31,6 +32,9 @@ mod words;
 
 pub use beyond::first_beyond;
 pub use job::{Call, Job, JobCode, JobError, JobFault, Part, Row};
-pub use laws::{jobs_fit, lines_are_filed, words_are_spelled};
+pub use laws::{
+    jobs_fit, lines_are_filed, taken_is_of_one_session, texts_are_short, words_are_spelled,
+};
+pub use placing::sides_of;
 pub use read::read_job;
 pub use settings::Settings;
