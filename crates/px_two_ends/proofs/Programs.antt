@@ -21,6 +21,7 @@ use Rattle.px_accepted.proofs.KnownProgram.{accepted_public}
 use Rattle.px_accepted.proofs.UsedWell.{accepted_is_used_well}
 use Rattle.px_accepted.proofs.Limits.{accepted_keeps_limits}
 use Rattle.px_flow_points.proofs.Typing.{typed_numbers_exist}
+use Rattle.px_flow_points.specs.There.{NumbersExist}
 use Rattle.px_flow_points.specs.ByNode.{Found}
 use Rattle.px_blocks.specs.declared.side.Side.{Side}
 use Rattle.px_blocks.specs.declared.block.Blocks.{Blocks}
@@ -45,12 +46,15 @@ module _ (bytes : List ℕ) (program : Program) (schema : Schema) (a : IsAccepte
   few : length code.methods < 2 ^ 16 - 1
   few = let h : length code.methods ≤ 2000 = (accepted_keeps_limits bytes program schema a).methods in omega (arith, h)
 
+  pub numbers_exist : NumbersExist code
+  numbers_exist = typed_numbers_exist code code_typed few
+
   pub placed_well : (found : Found) (sides : List Side) (placed : Placed) (blocks : Blocks) → IsSplit code found sides placed blocks → IsPlacedWell code found sides placed
   placed_well found sides placed blocks S =
       let d = program_classes bytes program a.program_is in
       record {
         typed = code_typed;
-        exist = typed_numbers_exist code code_typed few;
+        exist = numbers_exist;
         points = S.points;
         touched = S.touched;
         own = own_node code _ (nodes_are_in_order (checked_of program schema) source (accepted_is_used_well schema program d.0 d.1 a.kept));
