@@ -1,3 +1,4 @@
 pub mod Active
 pub mod Cored
 pub mod Kept
+pub mod Laws
