@@ -26,11 +26,12 @@ use Rattle.px_flow_points.specs.ByNode.{Found}
 use Rattle.px_blocks.specs.declared.side.Side.{Side}
 use Rattle.px_blocks.specs.declared.block.Blocks.{Blocks}
 use Rattle.px_blocks.specs.declared.placed.Placed.{Placed}
+use Rattle.px_plan.proofs.Pinned.{to_app}
 use Rattle.px_ends.specs.Calls.{Attempt}
 use Rattle.px_sound_plans.specs.Laws.{IsPlacedWell}
 use Rattle.px_sound_plans.specs.Runs.{IsCall}
 use Rattle.px_sound_plans.proofs.Entries.{calls_run_as_code, sessions_served}
-use Rattle.px_two_ends.specs.Laws.{code_of, IsSplit, IsCallOf, AcceptedIsPlacedWell, CallsRunAsPrograms, SessionsOfPrograms}
+use Rattle.px_two_ends.specs.Laws.{code_of, IsSplit, CompiledIsSplit, IsCallOf, AcceptedIsPlacedWell, CallsRunAsPrograms, SessionsOfPrograms}
 use Rattle.px_two_ends.proofs.Own.{own_node}
 
 module _ (bytes : List ℕ) (program : Program) (schema : Schema) (a : IsAccepted bytes program schema) where
@@ -71,6 +72,9 @@ module _ (bytes : List ℕ) (program : Program) (schema : Schema) (a : IsAccepte
   pub all_are : {W : Type 0} (attempts : List (Attempt W)) → AllByRecursion (λ (x : Attempt W). IsCallOf program schema x.method x.args) attempts → AllByRecursion (λ (x : Attempt W). IsCall code x.method x.args) attempts
   all_are [] all = tt
   all_are (x ∷ attempts) all = (call_is x.method x.args all.0, all_are attempts all.1)
+
+pub compiled_is_split : CompiledIsSplit
+compiled_is_split code found sides c points touched compiled = record { points = points; touched = touched; prints = to_app sides code compiled.pinned; sends = compiled.sends; cut = compiled.cut }
 
 pub accepted_is_placed_well : AcceptedIsPlacedWell
 accepted_is_placed_well bytes program schema a found sides placed blocks S = placed_well bytes program schema a found sides placed blocks S
