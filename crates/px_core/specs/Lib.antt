@@ -1,4 +1,5 @@
-pub mod Events
-pub mod Sound
-pub mod Stamped
-pub mod Told
+pub mod Active
+pub mod Cored
+pub mod Kept
+pub mod Laws
+pub mod Next

@@ -1,11 +1,8 @@
-//! The core: the tables, the lock book and the history of all sessions.
+//! The core: one history of all sessions, which is the run of its calls one at a time.
 #![tactic(auto)]
 
-mod journal;
+pub mod law;
 mod shared;
-mod standing;
-mod wants;
 
-pub use journal::Journal;
-pub use shared::{Core, Opped};
-pub use standing::Standing;
+pub use px_engine::{Begun, Opped};
+pub use shared::Core;

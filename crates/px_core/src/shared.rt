@@ -1,219 +1,124 @@
 //! The core.
-ghost use Rattle.std.specs.Prelude.{◌≡◌, ◌<◌, ◌≤◌, ◌+◌, ◌^◌, ◌++◌, ◌∷◌, [], ℕ, List, length, reverse, true, IfOk, OnOk, OnErr};
-ghost use Rattle.px_rows.specs.Tables.{Tables as Rows};
-ghost use Rattle.px_history.specs.declared.event.Event.{Event as History};
-ghost use Rattle.px_history.specs.declared.event.Event.TheVariants.{Begin, End, Drop};
-ghost use Rattle.px_history.specs.Attempts.{is_active, stamp_of};
-ghost use Rattle.px_history.specs.Legal.{Calls, MayBegin, MayEnd};
-ghost use Rattle.px_history.specs.State.{answer_of};
-ghost use Rattle.px_history.specs.Legal.{IsLegal};
-ghost use Rattle.px_history.specs.Locking.{core_locks};
-ghost use Rattle.px_core.specs.Sound.{IsSound, Tells, Leaves};
-ghost use Rattle.px_core.specs.Stamped.{IsStamped};
-ghost use Rattle.px_core.specs.Told.{IsOpped};
+ghost use Rattle.std.specs.Prelude.{◌≡◌, ◌++◌, ◌∷◌, [], true, IfOk, OnErr};
+ghost use Rattle.px_history.specs.declared.event.Event.TheVariants.{End, Drop};
+ghost use Rattle.px_history.specs.Attempts.{is_active};
+ghost use Rattle.px_engine.specs.Told.{IsNextCall, IsBegun, IsOpped};
+ghost use Rattle.px_core.specs.Cored.{history_of, calls_in, IsSameCore, IsServable, AsksNext, EndsNext, IsFaithfulCore, AreTables};
 
-use crate::journal::Journal;
-use crate::standing::Standing;
-use crate::wants::want_of;
 use px_code::Done;
-use px_history::{Event, is_throw};
-use px_locks::{Asked, LockBook};
-use px_rows::{Tables, Undo};
-use px_value::{Answer, TableOp};
+use px_engine::{Begun, Engine, Opped};
+use px_facts::Checked;
+use px_history::Event;
+use px_job::Job;
+use px_rows::Tables;
+use px_value::TableOp;
 use std::alloc::{AllocError, Global};
+use std::marker::Model;
+use std::snapshot::Snapshot;
 
-/// The tables in place, the lock book, the history, and the old rows of each session.
+/// The history of all sessions, with the program, the job and the tables that it began with.
 #[derive(Drop)]
 pub struct Core {
-    pub tables: Tables,
-    pub book: LockBook,
-    pub journal: Journal,
-    pub undos: Vec<Undo>,
-    pub standings: Vec<Standing>,
-    /// How many calls have begun.
-    pub begun: u32,
-    pub alloc: Global,
+    program: Snapshot<Checked>,
+    job: Snapshot<Job>,
+    first: Snapshot<Tables>,
+    engine: Engine,
 }
 
-#[derive(Drop)]
-pub enum Opped {
-    Did(Answer),
-    Waits { holder: u16, op: TableOp },
-    Died { holder: u16 },
+impl Model for Core {
+    ghost use Rattle.px_core.specs.Cored.{Cored};
+    ghost use Rattle.px_core.specs.Kept.{IsKeptBy};
+    ghost use Rattle.std.specs.Coded.{codes, coded_ℤ, coded_list};
+    ghost use Rattle.std.specs.FinMap.{code};
+    ghost use Rattle.std.specs.Ordering.{int_cmp};
+    ghost use Rattle.px_value.specs.contracts.value.Value as stored;
+    ghost use Rattle.px_tree.specs.contracts.StmtForm as statement;
+    ghost use Rattle.px_tree.specs.contracts.ExprForm as expression;
+
+    ghost Value = { Cored };
+
+    ghost coded = { Prim.hlevel (codes, statement.the_row.coded, expression.the_row.coded, code {R = int_cmp} coded_ℤ (coded_list stored.the_row.coded)) };
+
+    ghost view = { λ c. record { program = c.program.value; job = c.job.value; first = c.first.value; events = c.engine.journal.events } };
+
+    ghost invariant = { λ c. IsKeptBy c.program.value c.job.value c.first.value c.engine };
 }
 
 impl Core {
-    /// A core without events, with old rows to come for as many sessions.
-    pub fn new(alloc: Global, tables: Tables, sessions: usize) -> Result<Core, AllocError>
-        ensures tables { IfOk result (λ c. c.tables ≡ tables) }
-        ensures sound { IfOk result (λ c. (job : Calls) → IsSound job tables c) }
-        ensures empty { IfOk result (λ c. (c.journal.events ≡ []) × (c.journal.spare ≡ 0) × (c.begun ≡ 0)) }
-        ensures sessions { IfOk result (λ c. (length c.undos.items ≡ sessions) × (length c.standings.items ≡ sessions)) }
+    /// A core without events.
+    pub fn new(
+        alloc: Global,
+        tables: Tables,
+        program: &Checked,
+        job: &Job,
+    ) -> Result<Core, AllocError>
+        requires job { IsServable job.now }
+        ensures program { IfOk result (λ c. c.program ≡ program.now) }
+        ensures job { IfOk result (λ c. c.job ≡ job.now) }
+        ensures first { IfOk result (λ c. c.first ≡ tables) }
+        ensures events { IfOk result (λ c. c.events ≡ []) }
     {
-        let mut undos = Vec::new(alloc);
-        let mut standings = Vec::new(alloc);
-        for _made in 0..sessions {
-            undos.push(Undo::new(alloc))?;
-            standings.push(Standing { call: 0, stamp: 0 })?;
-        }
+        let first = Snapshot::of(&tables);
+        let sessions = usize::from(job.settings.sessions) + 1;
+        let engine = Engine::new(alloc, tables, sessions, job.settings.retries)?;
         Ok(Core {
-            tables,
-            book: LockBook::new(alloc),
-            journal: Journal::new(alloc),
-            undos,
-            standings,
-            begun: 0,
-            alloc,
+            program: Snapshot::of(program),
+            job: Snapshot::of(job),
+            first,
+            engine,
         })
     }
 
-    /// Does the operation that the session asks, or tells it to wait, or ends its attempt. Where no memory is found all is as before.
+    /// Begins the next attempt of a call, or says whose call has to end before.
+    pub fn begin(&mut self, session: u16, call: u64) -> Result<Begun, AllocError>
+        requires next { IsNextCall (calls_in self.old) (history_of self.old) session call }
+        ensures same { IsSameCore self.old self.new }
+        ensures told { IfOk result (λ told. IsBegun (calls_in self.old) told session call (self.old).events (self.new).events) }
+        ensures err { OnErr result (self.new ≡ self.old) }
+    {
+        self.engine.begin(session, call)
+    }
+
+    /// Does the operation that the session asks next, or tells it to wait, or ends its attempt.
     pub fn op(&mut self, session: u16, op: TableOp) -> Result<Opped, AllocError>
-        requires listed { session < length self.old.undos.items }
-        requires standing { session < length self.old.standings.items }
-        requires room { 0 < self.old.journal.spare }
-        requires limit { self.old.journal.spare + 1 < 2 ^ 32 }
-        ensures told { (job : Calls) (T0 : Rows) → is_active session (reverse self.old.journal.events) ≡ true → IsSound job T0 self.old → IfOk result (λ told. IsOpped self.old.book.grants session (stamp_of session (reverse self.old.journal.events)) op told self.old.journal.events self.new.journal.events) }
-        ensures sound { (job : Calls) (T0 : Rows) → is_active session (reverse self.old.journal.events) ≡ true → IsSound job T0 self.old → IsSound job T0 self.new }
-        ensures answer { (job : Calls) (T0 : Rows) → is_active session (reverse self.old.journal.events) ≡ true → IsSound job T0 self.old → IfOk result (λ told. Tells told (answer_of T0 session op (reverse self.old.journal.events))) }
-        ensures begun { self.new.begun ≡ self.old.begun }
-        ensures places { (length self.new.undos.items ≡ length self.old.undos.items) × (length self.new.standings.items ≡ length self.old.standings.items) }
-        ensures spare { IfOk result (λ told. Leaves told self.old.journal.spare self.new.journal.spare) }
-        ensures room { OnOk result ((self.old.journal.spare ≤ self.new.journal.spare + 1) × (self.new.journal.spare ≤ self.old.journal.spare)) }
-        ensures err_spare { OnErr result (self.old.journal.spare ≤ self.new.journal.spare) }
-        ensures err { OnErr result (self.new.journal.events ≡ self.old.journal.events) }
-        ensures err_tables { OnErr result (self.new.tables ≡ self.old.tables) }
-        ensures err_grants { OnErr result (self.new.book.grants ≡ self.old.book.grants) }
-        ensures err_undos { OnErr result (self.new.undos.items ≡ self.old.undos.items) }
-        ensures err_stamps { OnErr result ((self.new.standings.items ≡ self.old.standings.items) × (self.new.begun ≡ self.old.begun)) }
+        requires asks { AsksNext self.old session op }
+        ensures same { IsSameCore self.old self.new }
+        ensures told { IfOk result (λ told. IsOpped (self.old).first session op told (self.old).events (self.new).events) }
+        ensures err { OnErr result (self.new ≡ self.old) }
     {
-        let stamp = self.stamp(session);
-        let wants = [want_of(&op)];
-        match self.book.asked(session, stamp, wants.as_slice()) {
-            Asked::Waits { holder } => Ok(Opped::Waits { holder, op }),
-            Asked::Dies { holder } => {
-                self.tables.undo(&mut self.undos[usize::from(session)]);
-                self.book.release(session);
-                self.journal.append(Event::Die {
-                    session,
-                    op,
-                    holder,
-                });
-                Ok(Opped::Died { holder })
-            }
-            Asked::Granted => {
-                let answer = self.tables.answer(self.alloc, &op)?;
-                self.journal.make_room(1)?;
-                self.book.room(1)?;
-                self.tables
-                    .apply(self.alloc, &op, &mut self.undos[usize::from(session)])?;
-                self.book.grant(session, stamp, wants.as_slice());
-                self.journal.append(Event::Op { session, op });
-                Ok(Opped::Did(answer))
-            }
-        }
-    }
-
-    // The stamp of an active session's call.
-    fn stamp(&self, session: u16) -> u32
-        requires standing { session < length self.now.standings.items }
-        ensures { (h : List History) → IsStamped self.now.standings.items self.now.begun h → is_active session h ≡ true → result ≡ stamp_of session h }
-    {
-        self.standings[usize::from(session)].stamp
-    }
-
-    /// Begins an attempt of a call, and leaves room for its end.
-    pub fn begin(&mut self, session: u16, call: u64, attempt: u8) -> Result<(), AllocError>
-        requires standing { session < length self.old.standings.items }
-        requires limit { self.old.journal.spare + 2 < 2 ^ 32 }
-        requires stamps { self.old.begun + 1 < 2 ^ 32 }
-        ensures events { OnOk result (self.new.journal.events ≡ self.old.journal.events ++ Begin session call attempt ∷ []) }
-        ensures spare { OnOk result (self.new.journal.spare ≡ self.old.journal.spare + 1) }
-        ensures sound { (job : Calls) (T0 : Rows) → MayBegin job (reverse self.old.journal.events) session call attempt → IsSound job T0 self.old → OnOk result (IsSound job T0 self.new) }
-        ensures begun { self.new.begun ≤ self.old.begun + 1 }
-        ensures places { (length self.new.undos.items ≡ length self.old.undos.items) × (length self.new.standings.items ≡ length self.old.standings.items) }
-        ensures err { OnErr result (self.new.journal.events ≡ self.old.journal.events) }
-        ensures err_tables { OnErr result (self.new.tables ≡ self.old.tables) }
-        ensures err_grants { OnErr result (self.new.book.grants ≡ self.old.book.grants) }
-        ensures err_undos { OnErr result (self.new.undos.items ≡ self.old.undos.items) }
-        ensures err_stamps { OnErr result ((self.new.standings.items ≡ self.old.standings.items) × (self.new.begun ≡ self.old.begun)) }
-    {
-        self.journal.make_room(2)?;
-        self.stand(session, call);
-        self.journal.append(Event::Begin {
-            session,
-            call,
-            attempt,
-        });
-        Ok(())
-    }
-
-    // A new call gets the next stamp, and a later attempt keeps its own.
-    fn stand(&mut self, session: u16, call: u64)
-        requires standing { session < length self.old.standings.items }
-        requires stamps { self.old.begun + 1 < 2 ^ 32 }
-        ensures stamped { (job : Calls) (attempt : ℕ) → IsLegal job core_locks (reverse self.old.journal.events) → MayBegin job (reverse self.old.journal.events) session call attempt → IsStamped self.old.standings.items self.old.begun (reverse self.old.journal.events) → IsStamped self.new.standings.items self.new.begun (Begin session call attempt ∷ reverse self.old.journal.events) }
-        ensures begun { self.new.begun ≤ self.old.begun + 1 }
-        ensures standings { length self.new.standings.items ≡ length self.old.standings.items }
-        ensures tables { self.new.tables ≡ self.old.tables }
-        ensures book { self.new.book ≡ self.old.book }
-        ensures journal { self.new.journal ≡ self.old.journal }
-        ensures undos { self.new.undos ≡ self.old.undos }
-    {
-        let place = usize::from(session);
-        if self.standings[place].call != call {
-            self.begun += 1;
-            self.standings[place] = Standing {
-                call,
-                stamp: self.begun,
-            };
-        }
+        self.engine.op(session, op)
     }
 
     /// Ends a call. It takes no memory.
     pub fn end(&mut self, session: u16, done: Done)
-        requires listed { session < length self.old.undos.items }
-        requires room { 0 < self.old.journal.spare }
-        ensures events { self.new.journal.events ≡ self.old.journal.events ++ End session done ∷ [] }
-        ensures spare { self.new.journal.spare + 1 ≡ self.old.journal.spare }
-        ensures begun { self.new.begun ≡ self.old.begun }
-        ensures places { (length self.new.undos.items ≡ length self.old.undos.items) × (length self.new.standings.items ≡ length self.old.standings.items) }
-        ensures sound { (job : Calls) (T0 : Rows) → MayEnd job (reverse self.old.journal.events) session done → IsSound job T0 self.old → IsSound job T0 self.new }
+        requires ends { EndsNext self.old session done }
+        ensures same { IsSameCore self.old self.new }
+        ensures events { (self.new).events ≡ (self.old).events ++ End session done ∷ [] }
     {
-        if is_throw(&done.reply) {
-            self.tables.undo(&mut self.undos[usize::from(session)]);
-        } else {
-            self.undos[usize::from(session)].clear();
-        }
-        self.book.release(session);
-        self.journal.append(Event::End { session, done });
+        self.engine.end(session, done);
     }
 
     /// Gives a call up. It takes no memory.
     pub fn drop_call(&mut self, session: u16)
-        requires listed { session < length self.old.undos.items }
-        requires room { 0 < self.old.journal.spare }
-        ensures events { self.new.journal.events ≡ self.old.journal.events ++ Drop session ∷ [] }
-        ensures spare { self.new.journal.spare + 1 ≡ self.old.journal.spare }
-        ensures begun { self.new.begun ≡ self.old.begun }
-        ensures places { (length self.new.undos.items ≡ length self.old.undos.items) × (length self.new.standings.items ≡ length self.old.standings.items) }
-        ensures sound { (job : Calls) (T0 : Rows) → is_active session (reverse self.old.journal.events) ≡ true → IsSound job T0 self.old → IsSound job T0 self.new }
+        requires active { is_active session (history_of self.old) ≡ true }
+        ensures same { IsSameCore self.old self.new }
+        ensures events { (self.new).events ≡ (self.old).events ++ Drop session ∷ [] }
     {
-        self.tables.undo(&mut self.undos[usize::from(session)]);
-        self.book.release(session);
-        self.journal.append(Event::Drop { session });
+        self.engine.drop_call(session);
     }
 
-    /// The events in their order.
+    /// The events in their order, which are the run of the calls that ended, one at a time.
     pub fn history(&self) -> &[Event]
-        ensures { result.now ≡ self.now.journal.events }
+        ensures events { result.now ≡ (self.now).events }
+        ensures faithful { IsFaithfulCore self.now }
     {
-        self.journal.as_slice()
+        self.engine.history()
     }
 
+    /// The tables in place: where nobody else has written, those that a session sees.
     pub fn tables(&self) -> &Tables
-        ensures { result.now ≡ self.now.tables }
+        ensures { AreTables self.now result.now }
     {
-        &self.tables
+        self.engine.tables()
     }
 }

@@ -1,14 +1,88 @@
 //! Sessions that meet at a table.
-ghost use Rattle.std.specs.Prelude.{◌≡◌, IfOk, length};
-
 use px_code::{Done, Reply};
-use px_core::{Core, Opped};
+use px_engine::{Begun, Engine, Opped};
 use px_rows::{LoadError, Tables};
 use px_value::{Answer, Schema, Statement, Table, TableOp, Text, Thrown, Value, Values};
 use sqlite_items::Items;
 use std::alloc::{AllocError, Global};
 use std::test::Fail;
 
+// What a session does, with a value or the number of its call, and what it is told: that it began or ended, a value or a count, or the session that it waits for or dies of.
+type Case = (u16, char, i64, char, i64);
+
+const YOUNGER_DIES: [Case; 5] = [
+    (1, 'b', 1, 'b', 0),
+    (2, 'b', 1, 'b', 0),
+    (1, 's', 7, 'c', 1),
+    (2, 'r', 0, 'd', 1),
+    // It doesn't meet its own lock.
+    (1, 'r', 0, 'r', 7),
+];
+
+const OLDER_WAITS: [Case; 6] = [
+    (1, 'b', 1, 'b', 0),
+    (2, 'b', 1, 'b', 0),
+    (2, 's', 7, 'c', 1),
+    (1, 'r', 0, 'w', 2),
+    (2, 'e', 0, 'e', 0),
+    (1, 'r', 0, 'r', 7),
+];
+
+const READERS_SHARE: [Case; 5] = [
+    (1, 'b', 1, 'b', 0),
+    (2, 'b', 1, 'b', 0),
+    (2, 'r', 0, 'r', 100),
+    (1, 'r', 0, 'r', 100),
+    (1, 's', 7, 'w', 2),
+];
+
+const THROW_IS_UNDONE: [Case; 5] = [
+    (1, 'b', 1, 'b', 0),
+    (1, 's', 7, 'c', 1),
+    (1, 't', 0, 'e', 0),
+    (1, 'b', 2, 'b', 0),
+    (1, 'r', 0, 'r', 100),
+];
+
+const DROP_IS_UNDONE: [Case; 6] = [
+    (1, 'b', 1, 'b', 0),
+    (2, 'b', 1, 'b', 0),
+    (2, 's', 7, 'c', 1),
+    (1, 's', 8, 'w', 2),
+    (2, 'x', 0, 'x', 0),
+    (1, 'r', 0, 'r', 100),
+];
+
+// The dead call waits until the call that it died of is over, and keeps its stamp.
+const DEAD_CALL_COMES_AGAIN: [Case; 10] = [
+    (1, 'b', 1, 'b', 0),
+    (2, 'b', 1, 'b', 0),
+    (1, 's', 7, 'c', 1),
+    (2, 's', 8, 'd', 1),
+    (2, 'b', 1, 'w', 1),
+    (1, 'e', 0, 'e', 0),
+    (1, 'b', 2, 'b', 0),
+    (2, 'b', 1, 'b', 0),
+    (2, 'r', 0, 'r', 7),
+    (1, 's', 9, 'd', 2),
+];
+
+// An insert that is refused keeps its lock.
+const REFUSED_INSERT_LOCKS: [Case; 4] = [
+    (1, 'b', 1, 'b', 0),
+    (2, 'b', 1, 'b', 0),
+    (1, 'i', 9, 'n', 0),
+    (2, 'r', 0, 'd', 1),
+];
+
+fn pair(alloc: Global, first: i64, second: i64) -> Result<Values, AllocError> {
+    let mut values = Values::new(alloc);
+    values.push(Value::Long(first))?;
+    values.push(Value::Long(second))?;
+    Ok(values)
+}
+
+// One table, whose row with key 5 has the value 100.
 fn tables(alloc: Global) -> Result<Tables, AllocError> {
     let mut declared = Items::new(alloc);
     declared.push(Table {
@@ -23,14 +97,6 @@ fn tables(alloc: Global) -> Result<Tables, AllocError> {
     }
 }
 
-fn pair(alloc: Global, first: i64, second: i64) -> Result<Values, AllocError> {
-    let mut values = Values::new(alloc);
-    values.push(Value::Long(first))?;
-    values.push(Value::Long(second))?;
-    Ok(values)
-}
-
-// The row with key 5 gets a value.
 fn set(alloc: Global, value: i64) -> Result<TableOp, AllocError> {
     Ok(TableOp {
         number: 1,
@@ -55,13 +121,17 @@ fn read(alloc: Global) -> Result<TableOp, AllocError> {
     })
 }
 
-fn done(alloc: Global, throws: bool) -> Done {
+fn insert(alloc: Global, value: i64) -> Result<TableOp, AllocError> {
+    Ok(TableOp {
+        number: 3,
+        statement: Statement::Insert { table: 0 },
+        params: pair(alloc, 5, value)?,
+    })
+}
+
+fn done(alloc: Global, reply: Reply) -> Done {
     Done {
-        reply: if throws {
-            Reply::Threw(Thrown::ArithmeticException)
-        } else {
-            Reply::Void
-        },
+        reply,
         prints: Items::new(alloc),
         part: 0,
         avg: 0,
@@ -71,13 +141,6 @@ fn done(alloc: Global, throws: bool) -> Done {
     }
 }
 
-fn core(alloc: Global) -> Result<Core, AllocError>
-    ensures { IfOk result (λ c. (length c.undos.items ≡ 4) × (length c.standings.items ≡ 4) × (c.journal.spare ≡ 0) × (c.begun ≡ 0)) }
-{
-    Core::new(alloc, tables(alloc)?, 4)
-}
-
-// How a value that was read or a count comes, and whom a session meets.
 fn told(opped: Opped) -> (char, i64) {
     match opped {
         Opped::Did(Answer::Rows { cells, .. }) => match cells.get(0) {
@@ -91,60 +154,91 @@ fn told(opped: Opped) -> (char, i64) {
     }
 }
 
-#[test]
-fn a_younger_session_dies(rt: HostRuntime) -> Result<(), Fail> {
-    let alloc = rt.alloc();
-    let mut core = core(alloc)?;
-    core.begin(1, 1, 1)?;
-    core.begin(2, 1, 1)?;
-    core.begin(3, 1, 1)?;
-    let first = core.op(1, set(alloc, 7)?)?;
-    let second = core.op(2, read(alloc)?)?;
-    assert_eq!(rt; told(first), ('c', 1));
-    assert_eq!(rt; told(second), ('d', 1));
-    Ok(())
+fn begin(engine: &mut Engine, session: u16, call: i64) -> Result<(char, i64), AllocError> {
+    if usize::from(session) >= engine.seats.len() {
+        return Ok(('?', 0));
+    }
+    match engine.begin(session, call.cast_unsigned())? {
+        Begun::Began => Ok(('b', 0)),
+        Begun::Waits { holder } => Ok(('w', i64::from(holder))),
+    }
+}
+
+fn op(engine: &mut Engine, session: u16, op: TableOp) -> Result<(char, i64), AllocError> {
+    let place = usize::from(session);
+    if place < engine.seats.len() && place < engine.undos.len() && 0 < engine.journal.spare() {
+        Ok(told(engine.op(session, op)?))
+    } else {
+        Ok(('?', 0))
+    }
+}
+
+fn end(engine: &mut Engine, session: u16, done: Done) -> (char, i64) {
+    let place = usize::from(session);
+    if place < engine.seats.len() && place < engine.undos.len() && 0 < engine.journal.spare() {
+        engine.end(session, done);
+        ('e', 0)
+    } else {
+        ('?', 0)
+    }
+}
+
+fn give_up(engine: &mut Engine, session: u16) -> (char, i64) {
+    let place = usize::from(session);
+    if place < engine.seats.len() && place < engine.undos.len() && 0 < engine.journal.spare() {
+        engine.drop_call(session);
+        ('x', 0)
+    } else {
+        ('?', 0)
+    }
+}
+
+fn step(
+    alloc: Global,
+    engine: &mut Engine,
+    session: u16,
+    what: char,
+    value: i64,
+) -> Result<(char, i64), AllocError> {
+    match what {
+        'b' => begin(engine, session, value),
+        's' => op(engine, session, set(alloc, value)?),
+        'r' => op(engine, session, read(alloc)?),
+        'i' => op(engine, session, insert(alloc, value)?),
+        'e' => Ok(end(engine, session, done(alloc, Reply::Void))),
+        't' => Ok(end(
+            engine,
+            session,
+            done(alloc, Reply::Threw(Thrown::ArithmeticException)),
+        )),
+        'x' => Ok(give_up(engine, session)),
+        _ => Ok(('?', 1)),
+    }
+}
+
+// How many cases come before the first that is told otherwise.
+fn as_told(alloc: Global, cases: &[Case]) -> Result<usize, AllocError> {
+    let mut engine = Engine::new(alloc, tables(alloc)?, 4, 3)?;
+    let mut right = 0usize;
+    for (session, what, value, answer, number) in cases.iter() {
+        let (told, with) = step(alloc, &mut engine, *session, *what, *value)?;
+        if told != *answer || with != *number {
+            return Ok(right);
+        }
+        right = right.saturating_add(1);
+    }
+    Ok(right)
 }
 
 #[test]
-fn an_older_session_waits(rt: HostRuntime) -> Result<(), Fail> {
+fn sessions_are_told(rt: HostRuntime) -> Result<(), Fail> {
     let alloc = rt.alloc();
-    let mut core = core(alloc)?;
-    core.begin(1, 1, 1)?;
-    core.begin(2, 1, 1)?;
-    core.begin(3, 1, 1)?;
-    let first = core.op(2, set(alloc, 7)?)?;
-    let second = core.op(1, read(alloc)?)?;
-    assert_eq!(rt; told(first), ('c', 1));
-    assert_eq!(rt; told(second), ('w', 2));
-    Ok(())
-}
-
-#[test]
-fn a_throw_is_undone(rt: HostRuntime) -> Result<(), Fail> {
-    let alloc = rt.alloc();
-    let mut core = core(alloc)?;
-    core.begin(1, 1, 1)?;
-    core.begin(2, 1, 1)?;
-    let first = core.op(1, set(alloc, 7)?)?;
-    core.end(1, done(alloc, true));
-    core.begin(1, 2, 1)?;
-    let second = core.op(1, read(alloc)?)?;
-    assert_eq!(rt; told(first), ('c', 1));
-    assert_eq!(rt; told(second), ('r', 100));
-    Ok(())
-}
-
-#[test]
-fn what_ended_is_read(rt: HostRuntime) -> Result<(), Fail> {
-    let alloc = rt.alloc();
-    let mut core = core(alloc)?;
-    core.begin(2, 1, 1)?;
-    core.begin(1, 1, 1)?;
-    let first = core.op(2, set(alloc, 7)?)?;
-    core.end(2, done(alloc, false));
-    core.begin(3, 1, 1)?;
-    let second = core.op(1, read(alloc)?)?;
-    assert_eq!(rt; told(first), ('c', 1));
-    assert_eq!(rt; told(second), ('r', 7));
+    assert_eq!(rt; as_told(alloc, YOUNGER_DIES.as_slice())?, 5);
+    assert_eq!(rt; as_told(alloc, OLDER_WAITS.as_slice())?, 6);
+    assert_eq!(rt; as_told(alloc, READERS_SHARE.as_slice())?, 5);
+    assert_eq!(rt; as_told(alloc, THROW_IS_UNDONE.as_slice())?, 5);
+    assert_eq!(rt; as_told(alloc, DROP_IS_UNDONE.as_slice())?, 6);
+    assert_eq!(rt; as_told(alloc, DEAD_CALL_COMES_AGAIN.as_slice())?, 10);
+    assert_eq!(rt; as_told(alloc, REFUSED_INSERT_LOCKS.as_slice())?, 4);
     Ok(())
 }

@@ -1,3 +1,6 @@
 pub mod Runs
 pub mod Weights
 pub mod Graphs
+pub mod Plans
+pub mod Words
+pub mod Texts

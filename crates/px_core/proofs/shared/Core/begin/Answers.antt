@@ -1,30 +1,24 @@
-use Rattle.std.proofs.Common.{◌≡◌, ◌++◌, List, [], ◌∷◌, ap, sym, subst, ◌∙◌, reverse}
-use Rattle.px_rows.specs.Tables.{Tables, Old}
-use Rattle.px_locks.specs.declared.want.Grant.{Grant}
-use Rattle.px_history.specs.declared.event.Event.{Event}
-use Rattle.px_history.specs.declared.event.Event.TheVariants.{Begin}
-use Rattle.px_history.specs.Legal.{MayBegin, IsLegal}
-use Rattle.px_history.specs.Locking.{core_locks}
-use Rattle.px_core.specs.Events.{Events}
-use Rattle.px_core.specs.Sound.{IsKept}
-use Rattle.px_core.specs.Stamped.{IsStamped}
-use Rattle.px_core.proofs.Stamps.{begin_push}
-use Rattle.px_core.proofs.Steps.{begin_step}
+use Rattle.std.proofs.Common.{subst, sym, IfOk}
+use Rattle.px_engine.specs.Told.{IsNextCall, IsBegun}
+use Rattle.px_core.specs.Cored.{Cored, calls_of_job, calls_in, history_of}
+use Rattle.px_core.proofs.Kept.{next_seated, kept_begin}
 use Rattle.px_core.proofs.shared.Core.begin.Goals as goal
 
-pub returns-clause-sound : goal.returns-clause-sound
-returns-clause-sound c = λ job T0 m z.
-    let old = c.args.self.now.journal.events in
-    let e = Begin c.args.session c.args.call c.args.attempt in
-    let same : c.make_room.new.self.events ≡ old = c.in_ok-make_room.ensures.events in
-    let events : c.append.new.self.events ≡ old ++ e ∷ [] = c.append.ensures.events ∙ ap (λ (j : Events). j.events ++ e ∷ []) c.stand.ensures.journal ∙ ap (λ (es : List Event). es ++ e ∷ []) same in
-    let kept = begin_step job T0 c.args.self.now.tables c.args.self.now.book.grants c.args.self.now.undos.items old z.0 c.args.session c.args.call c.args.attempt m c.append.new.self.events events in
-    let stamped = c.stand.ensures.stamped job c.args.attempt
-    (subst (λ (es : List Event). IsLegal job core_locks (reverse es)) (sym same) (z.0).legal)
-    (subst (λ (es : List Event). MayBegin job (reverse es) c.args.session c.args.call c.args.attempt) (sym same) m)
-    (subst (λ (es : List Event). IsStamped c.args.self.now.standings.items c.args.self.now.begun (reverse es)) (sym same) z.1) in (
-      subst (λ (y : Tables × List Grant × List (List Old)). IsKept job T0 y.0 y.1 y.2 c.append.new.self.events)
-          (λ j. (sym c.stand.ensures.tables j, (sym c.stand.ensures.book j).grants, (sym c.stand.ensures.undos j).items)) kept,
-      begin_push c.stand.new.self.standings.items c.stand.new.self.begun old c.append.new.self.events e events
-          (subst (λ (es : List Event). IsStamped c.stand.new.self.standings.items c.stand.new.self.begun (e ∷ reverse es)) same stamped),
-    )
+pub begin-requires : goal.begin-requires
+begin-requires c =
+    let next = subst (λ (v : Cored). IsNextCall (calls_in v) (history_of v) c.args.session c.args.call) (sym c.self.view_is) c.requires.next in
+    record { seated = next_seated c.self.inside.program.value c.self.inside.job.value c.self.inside.first.value c.self.inside.engine c.self.invariant c.args.session c.args.call next.due }
+
+pub invariant_of-self : goal.invariant_of-self
+invariant_of-self c =
+    let next = subst (λ (v : Cored). IsNextCall (calls_in v) (history_of v) c.args.session c.args.call) (sym c.self.view_is) c.requires.next in
+    let b = c.begin.ensures in
+    let job = calls_of_job c.self.inside.job.value in
+    kept_begin c.self.inside.program.value c.self.inside.job.value c.self.inside.first.value c.self.inside.engine c.self.invariant c.begin.result c.args.session c.args.call c.begin.new.self next.due
+    (b.told job c.self.inside.first.value next c.self.invariant.sound) b.spare b.err (b.sound job c.self.inside.first.value next c.self.invariant.sound) b.places
+
+pub returns-clause-told : goal.returns-clause-told
+returns-clause-told c =
+    let next = subst (λ (v : Cored). IsNextCall (calls_in v) (history_of v) c.args.session c.args.call) (sym c.self.view_is) c.requires.next in
+    subst (λ (v : Cored). IfOk c.begin.result (λ told. IsBegun (calls_in v) told c.args.session c.args.call v.events c.begin.new.self.journal.events)) c.self.view_is
+    (c.begin.ensures.told (calls_of_job c.self.inside.job.value) c.self.inside.first.value next c.self.invariant.sound)

@@ -1,14 +1,18 @@
-use Rattle.std.proofs.Common.{List, ap, ◌∙◌, refl}
-use Rattle.px_rows.specs.Tables.{Old, undone}
+use Rattle.std.proofs.Common.{◌≡◌, true, refl, subst, sym}
 use Rattle.px_history.specs.declared.event.Event.TheVariants.{Drop}
-use Rattle.px_core.proofs.Stamps.{quiet_push, quiet_drop}
-use Rattle.px_core.proofs.Steps.{gone_step, mine_at}
+use Rattle.px_history.specs.Attempts.{is_active}
+use Rattle.px_core.specs.Cored.{Cored, calls_of_job, history_of}
+use Rattle.px_core.proofs.Kept.{now_room, kept_out}
 use Rattle.px_core.proofs.shared.Core.drop_call.Goals as goal
 
-pub returns-clause-sound : goal.returns-clause-sound
-returns-clause-sound c = λ job T0 i z.
-    let mine = mine_at c.args.self.now.undos.items c.from.result c.args.session c.index_mut.result.now c.from.ensures c.requires.listed c.index_mut.ensures.value in (
-      gone_step job T0 c.args.self.now.tables c.args.self.now.book.grants c.args.self.now.undos.items c.args.self.now.journal.events z.0 (Drop c.args.session) i refl refl c.requires.listed _ _ _ _ _
-          c.from.ensures (c.undo.ensures.undone ∙ ap (λ (x : List Old). undone x c.args.self.now.tables) mine) c.release.ensures.grants c.undo.ensures.none_left c.append.ensures.events,
-      quiet_push _ _ c.args.self.now.journal.events _ (Drop c.args.session) (quiet_drop c.args.session) c.append.ensures.events z.1,
-    )
+pub drop_call-requires-clause-room : goal.drop_call-requires-clause-room
+drop_call-requires-clause-room c =
+    let active = subst (λ (v : Cored). is_active c.args.session (history_of v) ≡ true) (sym c.self.view_is) c.requires.active in
+    now_room c.self.inside.program.value c.self.inside.job.value c.self.inside.first.value c.self.inside.engine c.self.invariant c.args.session active
+
+pub invariant_of-self : goal.invariant_of-self
+invariant_of-self c =
+    let active = subst (λ (v : Cored). is_active c.args.session (history_of v) ≡ true) (sym c.self.view_is) c.requires.active in
+    let r = c.drop_call.ensures in
+    kept_out c.self.inside.program.value c.self.inside.job.value c.self.inside.first.value c.self.inside.engine c.self.invariant (Drop c.args.session) tt (λ xs. refl) active
+    c.drop_call.new.self r.events (r.sound (calls_of_job c.self.inside.job.value) c.self.inside.first.value active c.self.invariant.sound) r.places r.spare

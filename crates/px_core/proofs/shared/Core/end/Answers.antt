@@ -1,36 +1,17 @@
-use Rattle.std.proofs.Common.{◌≡◌, ◌++◌, List, [], ◌∷◌, ap, ◌∙◌, refl, sym, subst, not, reverse}
-use Rattle.px_rows.specs.Tables.{Old, undone}
-use Rattle.px_locks.specs.Locks.{without}
+use Rattle.std.proofs.Common.{refl, subst, sym}
 use Rattle.px_history.specs.declared.event.Event.TheVariants.{End}
-use Rattle.px_core.specs.Stamped.{IsStamped}
-use Rattle.px_core.proofs.Stamps.{quiet_push, quiet_end}
-use Rattle.px_core.proofs.Steps.{gone_step, commit_step, mine_at, moved}
+use Rattle.px_core.specs.Cored.{Cored, calls_of_job, EndsNext}
+use Rattle.px_core.proofs.Kept.{now_room, kept_out}
 use Rattle.px_core.proofs.shared.Core.end.Goals as goal
-use Rattle.px_core.proofs.shared.Core.end.Goals.{then-is_throw, else-is_throw}
 
-pub returns-clause-sound : goal.returns-clause-sound
-returns-clause-sound c = λ job T0 m z. elim c.if-is_throw.branch [
-  | then-is_throw w ↦
-      let s = w.self-is in
-      let events : c.append.new.self.events ≡ c.args.self.now.journal.events ++ End c.args.session c.args.done ∷ [] = c.append.ensures.events ∙ (λ j. (s j).journal.events ++ End c.args.session c.args.done ∷ []) in
-      let mine = mine_at c.args.self.now.undos.items w.from.result c.args.session w.index_mut.result.now w.from.ensures c.requires.listed w.index_mut.ensures.value in (
-        moved job T0 _ _ _ _
-            (gone_step job T0 c.args.self.now.tables c.args.self.now.book.grants c.args.self.now.undos.items c.args.self.now.journal.events z.0 (End c.args.session c.args.done) m (ap not (sym c.is_throw.ensures ∙ w.if-is_throw.true)) refl c.requires.listed
-            w.undo.new.self c.release.new.self.grants w.from.result w.undo.new.undo c.append.new.self.events
-            w.from.ensures (w.undo.ensures.undone ∙ ap (λ (x : List Old). undone x c.args.self.now.tables) mine) (c.release.ensures.grants ∙ (λ j. without c.args.session (s j).book.grants)) w.undo.ensures.none_left events)
-            _ _ (λ j. (s j).tables) (λ j. (s j).undos.items),
-        subst (λ x. IsStamped x.standings.items x.begun (reverse c.append.new.self.events)) (sym s)
-            (quiet_push _ _ c.args.self.now.journal.events _ (End c.args.session c.args.done) (quiet_end c.args.session c.args.done) events z.1),
-      )
-  | else-is_throw w ↦
-      let s = w.self-is in
-      let events : c.append.new.self.events ≡ c.args.self.now.journal.events ++ End c.args.session c.args.done ∷ [] = c.append.ensures.events ∙ (λ j. (s j).journal.events ++ End c.args.session c.args.done ∷ []) in (
-        moved job T0 _ _ _ _
-            (commit_step job T0 c.args.self.now.tables c.args.self.now.book.grants c.args.self.now.undos.items c.args.self.now.journal.events z.0 c.args.session c.args.done m (ap not (sym c.is_throw.ensures ∙ w.if-is_throw.false)) c.requires.listed
-            c.release.new.self.grants w.from-else-is_throw.result w.clear.new.self c.append.new.self.events
-            w.from-else-is_throw.ensures (c.release.ensures.grants ∙ (λ j. without c.args.session (s j).book.grants)) w.clear.ensures events)
-            _ _ (λ j. (s j).tables) (λ j. (s j).undos.items),
-        subst (λ x. IsStamped x.standings.items x.begun (reverse c.append.new.self.events)) (sym s)
-            (quiet_push _ _ c.args.self.now.journal.events _ (End c.args.session c.args.done) (quiet_end c.args.session c.args.done) events z.1),
-      )
-]
+pub end-requires-clause-room : goal.end-requires-clause-room
+end-requires-clause-room c =
+    let ends = subst (λ (v : Cored). EndsNext v c.args.session c.args.done) (sym c.self.view_is) c.requires.ends in
+    now_room c.self.inside.program.value c.self.inside.job.value c.self.inside.first.value c.self.inside.engine c.self.invariant c.args.session (ends.may).active
+
+pub invariant_of-self : goal.invariant_of-self
+invariant_of-self c =
+    let ends = subst (λ (v : Cored). EndsNext v c.args.session c.args.done) (sym c.self.view_is) c.requires.ends in
+    let r = c.end.ensures in
+    kept_out c.self.inside.program.value c.self.inside.job.value c.self.inside.first.value c.self.inside.engine c.self.invariant (End c.args.session c.args.done) ends.ended (λ xs. refl) (ends.may).active
+    c.end.new.self r.events (r.sound (calls_of_job c.self.inside.job.value) c.self.inside.first.value ends.may c.self.invariant.sound) r.places r.spare

@@ -1,15 +1,14 @@
-use Rattle.std.proofs.Common.{List, sym, subst, reverse}
-use Rattle.px_locks.specs.declared.want.Grant.{Grant}
-use Rattle.px_history.specs.declared.event.Event.{Event}
-use Rattle.px_core.specs.Sound.{IsKept}
-use Rattle.px_core.specs.Stamped.{IsStamped}
-use Rattle.px_core.proofs.Stamps.{stamped_none}
-use Rattle.px_core.proofs.Steps.{start_sound}
+use Rattle.std.proofs.Common.{ℕ, ◌+◌, ap, ◌∙◌, refl, subst, sym}
+use Rattle.px_rows.specs.Tables.{Tables}
+use Rattle.px_job.specs.declared.job.Job.{Job as JobOfFile}
+use Rattle.px_core.specs.Cored.{calls_of_job}
+use Rattle.px_core.specs.Kept.{IsKeptBy}
+use Rattle.px_core.proofs.Kept.{kept_new}
 use Rattle.px_core.proofs.shared.Core.new.Goals as goal
 
-pub returns-clause-sound : goal.returns-clause-sound
-returns-clause-sound c = λ job. (
-  subst (λ (y : List Grant × List Event). IsKept job c.args.tables c.args.tables y.0 c.loop-made.undos.items y.1) (λ j. (sym c.new-2.ensures j, sym c.new-3.ensures.events j))
-      (start_sound job c.args.tables c.loop-made.undos.items c.loop-made.invariant.none),
-  subst (λ (events : List Event). IsStamped c.loop-made.standings.items 0 (reverse events)) (sym c.new-3.ensures.events) (stamped_none c.loop-made.standings.items c.loop-made.invariant.new),
-)
+pub invariant_of-result : goal.invariant_of-result
+invariant_of-result c =
+    let f = c.in_ok-engine.ensures {u = tt} in
+    let sessions = ap (λ (n : ℕ). n + 1) c.from-sessions.ensures in
+    subst (λ (y : JobOfFile × Tables). IsKeptBy c.of.result.value y.0 y.1 c.in_ok-engine.engine) (λ j. (sym c.of-2.ensures j, sym c.of-first.ensures j))
+    (kept_new c.of.result.value c.args.job.now c.args.tables c.in_ok-engine.engine c.requires.job (f.empty).0 (f.sound (calls_of_job c.args.job.now) refl) ((f.sessions).0 ∙ sessions, (f.sessions).1 ∙ sessions))
