@@ -7,9 +7,9 @@ use px_flow_points::points_to;
 use px_grammar::parse;
 use px_lowering::lower;
 use px_normal::{Code, Operand};
+use px_plan::{CompileError, compile};
 use px_rules::check;
 use px_sql::read_schema;
-use px_sync::place_sends;
 use sqlite_items::Items;
 use std::alloc::{AllocError, Global};
 
@@ -70,8 +70,11 @@ fn placed_text(alloc: Global, code: &Code, at_db: &[u32]) -> Result<String, Allo
 {
     let points = points_to(alloc, code)?;
     let sides = sides_of(alloc, code.nodes.len(), at_db)?;
-    let placed = place_sends(alloc, code, &points, sides)?;
-    text_of(alloc, &placed)
+    match compile(alloc, code, &points, sides) {
+        Ok(compiled) => text_of(alloc, &compiled.placed),
+        Err(CompileError::Unpinned { node }) => format!(in alloc; "unpinned {node}"),
+        Err(CompileError::NoMemory) => Err(AllocError),
+    }
 }
 
 // The code of a program that is accepted.

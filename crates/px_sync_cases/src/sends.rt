@@ -11,7 +11,18 @@ struct Case {
 
 const HEAD: &str = "CREATE TABLE t (id LONG, s TEXT);\nclass Main { long f; Main o; long[] a; ";
 
-const CASES: [Case; 14] = [
+const CASES: [Case; 16] = [
+    // Prints are at APP: print 2.
+    Case {
+        source: "public void m() { System.out.println(1); }",
+        at_db: &[2],
+        sends: "unpinned 2",
+    },
+    Case {
+        source: "public void m() { System.out.println(1); }",
+        at_db: &[1, 3],
+        sends: "",
+    },
     // The nodes are: the method 1, the put 2, the return 3, the fields 4 to 6.
     Case {
         source: "public void m(long x) { f = x; }",
