@@ -1,5 +1,5 @@
 -- What holds of cores, and of the jobs that they are made for.
-use Rattle.std.specs.Prelude.{◌≡◌, ℕ, List, [], ◌∷◌, ◌++◌}
+use Rattle.std.specs.Prelude.{◌≡◌, ℕ, ◌<◌, List, [], ◌∷◌, ◌++◌}
 use Rattle.px_value.specs.declared.statement.TableOp.{TableOp}
 use Rattle.px_value.specs.declared.schema.Table.{Table}
 use Rattle.px_facts.specs.declared.checked.Entry.{Entry}
@@ -7,6 +7,7 @@ use Rattle.px_normal.specs.declared.code.Code.{Code}
 use Rattle.px_job.specs.declared.job.Job.{Job as JobOfFile}
 use Rattle.px_job.specs.Fitting.{Fits}
 use Rattle.px_history.specs.declared.event.Event.{Event}
+use Rattle.px_history.specs.Moves.{IsDue}
 use Rattle.px_engine.specs.declared.engine.Begun.{Begun}
 use Rattle.px_engine.specs.declared.engine.Begun.TheVariants.{Began, Waits as Holds}
 use Rattle.px_engine.specs.declared.engine.Opped.{Opped}
@@ -38,3 +39,8 @@ BeginsNextOrHeld c counts s new (Holds x) = (new ≡ c.events) × IsHeld (meanin
 
 abbrev pub BeginsAddNext : Type 0
 BeginsAddNext = (c : Cored) (counts : Counts) (s call : ℕ) (new : List Event) (told : Begun) → IsNextCall (calls_in c) (history_of c) s call → IsBegun (calls_in c) told s call c.events new → BeginsNextOrHeld c counts s new told
+
+-- while a call isn't over some session has a next event
+abbrev pub SomeoneIsNext : Type 0
+SomeoneIsNext = (c : Cored) (counts : ℕ → Counts) → ((s : ℕ) → (counts s).part < (calls_in c).parts) → IsFaithfulCore c → (s call : ℕ) → IsDue (calls_in c) (history_of c) s call
+    → (y : ℕ) × (e : Event) × IsNext (meaning_by c.program c.job) (calls_in c) c.first (counts y) (history_of c) y e

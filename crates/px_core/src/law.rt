@@ -1,5 +1,5 @@
 //! What holds of cores, and of the jobs that they are made for.
-ghost use Rattle.px_core.specs.Laws.{FittingJobsAreServable, NextIsSingle, OperationsAddNext, BeginsAddNext};
+ghost use Rattle.px_core.specs.Laws.{FittingJobsAreServable, NextIsSingle, OperationsAddNext, BeginsAddNext, SomeoneIsNext};
 
 /// A job that keeps the rules of a job file has calls of its sessions alone, and few retries.
 pub fn fitting_jobs_are_servable()
@@ -19,4 +19,9 @@ pub fn operations_add_next()
 /// The same of `Core::begin`.
 pub fn begins_add_next()
     ensures { BeginsAddNext }
+{}
+
+/// While a call isn't over some session has a next event.
+pub fn someone_is_next()
+    ensures { SomeoneIsNext }
 {}
