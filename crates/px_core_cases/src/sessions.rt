@@ -83,7 +83,7 @@ fn pair(alloc: Global, first: i64, second: i64) -> Result<Values, AllocError> {
 }
 
 // One table, whose row with key 5 has the value 100.
-fn tables(alloc: Global) -> Result<Tables, AllocError> {
+pub(crate) fn tables(alloc: Global) -> Result<Tables, AllocError> {
     let mut declared = Items::new(alloc);
     declared.push(Table {
         name: Text::from_vec(Vec::new(alloc)),
@@ -97,7 +97,7 @@ fn tables(alloc: Global) -> Result<Tables, AllocError> {
     }
 }
 
-fn set(alloc: Global, value: i64) -> Result<TableOp, AllocError> {
+pub(crate) fn set(alloc: Global, value: i64) -> Result<TableOp, AllocError> {
     Ok(TableOp {
         number: 1,
         statement: Statement::Update {
@@ -108,7 +108,7 @@ fn set(alloc: Global, value: i64) -> Result<TableOp, AllocError> {
     })
 }
 
-fn read(alloc: Global) -> Result<TableOp, AllocError> {
+pub(crate) fn read(alloc: Global) -> Result<TableOp, AllocError> {
     let mut params = Values::new(alloc);
     params.push(Value::Long(5))?;
     Ok(TableOp {
@@ -129,7 +129,7 @@ fn insert(alloc: Global, value: i64) -> Result<TableOp, AllocError> {
     })
 }
 
-fn done(alloc: Global, reply: Reply) -> Done {
+pub(crate) fn done(alloc: Global, reply: Reply) -> Done {
     Done {
         reply,
         prints: Items::new(alloc),
@@ -154,7 +154,11 @@ fn told(opped: Opped) -> (char, i64) {
     }
 }
 
-fn begin(engine: &mut Engine, session: u16, call: i64) -> Result<(char, i64), AllocError> {
+pub(crate) fn begin(
+    engine: &mut Engine,
+    session: u16,
+    call: i64,
+) -> Result<(char, i64), AllocError> {
     if usize::from(session) >= engine.seats.len() {
         return Ok(('?', 0));
     }
@@ -164,7 +168,11 @@ fn begin(engine: &mut Engine, session: u16, call: i64) -> Result<(char, i64), Al
     }
 }
 
-fn op(engine: &mut Engine, session: u16, op: TableOp) -> Result<(char, i64), AllocError> {
+pub(crate) fn op(
+    engine: &mut Engine,
+    session: u16,
+    op: TableOp,
+) -> Result<(char, i64), AllocError> {
     let place = usize::from(session);
     if place < engine.seats.len() && place < engine.undos.len() && 0 < engine.journal.spare() {
         Ok(told(engine.op(session, op)?))
@@ -173,7 +181,7 @@ fn op(engine: &mut Engine, session: u16, op: TableOp) -> Result<(char, i64), All
     }
 }
 
-fn end(engine: &mut Engine, session: u16, done: Done) -> (char, i64) {
+pub(crate) fn end(engine: &mut Engine, session: u16, done: Done) -> (char, i64) {
     let place = usize::from(session);
     if place < engine.seats.len() && place < engine.undos.len() && 0 < engine.journal.spare() {
         engine.end(session, done);
