@@ -612,7 +612,7 @@ def answer_of_program(program, job):
 def without_place(text):
     """The references know neither the line of a syntax error nor which type rule is broken."""
     text = re.sub(rb"^program \d+ Syntax\n$", b"program 0 Syntax\n", text)
-    return re.sub(rb"^program \d+ T\d+\n$", b"program 0 Later\n", text)
+    return re.sub(rb"^program \d+ (T\d+|Later)\n$", b"program 0 Later\n", text)
 
 
 def begin_worker(path, command, base):
@@ -628,9 +628,9 @@ def judge(case):
     except Exception as fault:
         wanted = "fault", repr(fault).encode()
     kind = "done" if wanted[0] == 0 else re.sub(rb"^(\w+) (0|\d+) ", lambda m: m[1] + (b" 0 " if m[2] == b"0" else b" N "), wanted[1]).decode("latin-1").strip()
-    if COMMAND == "run" and re.match(rb"program \d+ Later\n", wanted[1]):
-        # The reference knows the small language alone.
-        return group, "of the whole language", None
+    if re.match(rb"(program|job) \d+ Later\n", wanted[1]):
+        # The references know straight-line programs over one class alone, and of `solo` jobs of calls and a part.
+        return group, "beyond the reference", None
     if got == wanted:
         return group, kind, None
     if len(program) + len(job) < 3000:

@@ -1,2 +1,5 @@
 pub mod Keeping
 pub mod Kept
+pub mod Nexts
+pub mod Servable
+pub mod Singles

@@ -1,3 +1,5 @@
 pub mod Active
 pub mod Cored
 pub mod Kept
+pub mod Laws
+pub mod Next

@@ -67,6 +67,35 @@ const DEAD_CALL_COMES_AGAIN: [Case; 10] = [
     (1, 's', 9, 'd', 2),
 ];
 
+// Two readers that both want to write: the older waits for the younger, which dies, and comes again.
+const READERS_BECOME_WRITERS: [Case; 13] = [
+    (1, 'b', 1, 'b', 0),
+    (2, 'b', 1, 'b', 0),
+    (1, 'r', 0, 'r', 100),
+    (2, 'r', 0, 'r', 100),
+    (1, 's', 101, 'w', 2),
+    (2, 's', 102, 'd', 1),
+    (1, 's', 101, 'c', 1),
+    (1, 'e', 0, 'e', 0),
+    (2, 'b', 1, 'b', 0),
+    (2, 'r', 0, 'r', 101),
+    (2, 's', 103, 'c', 1),
+    (2, 'e', 0, 'e', 0),
+    (1, 'b', 2, 'b', 0),
+];
+
+// A call that may not be tried again is over with its death, and the next one begins with a stamp of its own.
+const DEAD_CALL_IS_OVER: [Case; 8] = [
+    (1, 'b', 1, 'b', 0),
+    (2, 'b', 1, 'b', 0),
+    (1, 's', 5, 'c', 1),
+    (2, 's', 7, 'd', 1),
+    (1, 'e', 0, 'e', 0),
+    (2, 'b', 2, 'b', 0),
+    (2, 's', 9, 'c', 1),
+    (2, 'e', 0, 'e', 0),
+];
+
 // An insert that is refused keeps its lock.
 const REFUSED_INSERT_LOCKS: [Case; 4] = [
     (1, 'b', 1, 'b', 0),
@@ -83,7 +112,7 @@ fn pair(alloc: Global, first: i64, second: i64) -> Result<Values, AllocError> {
 }
 
 // One table, whose row with key 5 has the value 100.
-fn tables(alloc: Global) -> Result<Tables, AllocError> {
+pub(crate) fn tables(alloc: Global) -> Result<Tables, AllocError> {
     let mut declared = Items::new(alloc);
     declared.push(Table {
         name: Text::from_vec(Vec::new(alloc)),
@@ -97,7 +126,7 @@ fn tables(alloc: Global) -> Result<Tables, AllocError> {
     }
 }
 
-fn set(alloc: Global, value: i64) -> Result<TableOp, AllocError> {
+pub(crate) fn set(alloc: Global, value: i64) -> Result<TableOp, AllocError> {
     Ok(TableOp {
         number: 1,
         statement: Statement::Update {
@@ -108,7 +137,7 @@ fn set(alloc: Global, value: i64) -> Result<TableOp, AllocError> {
     })
 }
 
-fn read(alloc: Global) -> Result<TableOp, AllocError> {
+pub(crate) fn read(alloc: Global) -> Result<TableOp, AllocError> {
     let mut params = Values::new(alloc);
     params.push(Value::Long(5))?;
     Ok(TableOp {
@@ -129,7 +158,7 @@ fn insert(alloc: Global, value: i64) -> Result<TableOp, AllocError> {
     })
 }
 
-fn done(alloc: Global, reply: Reply) -> Done {
+pub(crate) fn done(alloc: Global, reply: Reply) -> Done {
     Done {
         reply,
         prints: Items::new(alloc),
@@ -154,7 +183,11 @@ fn told(opped: Opped) -> (char, i64) {
     }
 }
 
-fn begin(engine: &mut Engine, session: u16, call: i64) -> Result<(char, i64), AllocError> {
+pub(crate) fn begin(
+    engine: &mut Engine,
+    session: u16,
+    call: i64,
+) -> Result<(char, i64), AllocError> {
     if usize::from(session) >= engine.seats.len() {
         return Ok(('?', 0));
     }
@@ -164,7 +197,11 @@ fn begin(engine: &mut Engine, session: u16, call: i64) -> Result<(char, i64), Al
     }
 }
 
-fn op(engine: &mut Engine, session: u16, op: TableOp) -> Result<(char, i64), AllocError> {
+pub(crate) fn op(
+    engine: &mut Engine,
+    session: u16,
+    op: TableOp,
+) -> Result<(char, i64), AllocError> {
     let place = usize::from(session);
     if place < engine.seats.len() && place < engine.undos.len() && 0 < engine.journal.spare() {
         Ok(told(engine.op(session, op)?))
@@ -173,7 +210,7 @@ fn op(engine: &mut Engine, session: u16, op: TableOp) -> Result<(char, i64), All
     }
 }
 
-fn end(engine: &mut Engine, session: u16, done: Done) -> (char, i64) {
+pub(crate) fn end(engine: &mut Engine, session: u16, done: Done) -> (char, i64) {
     let place = usize::from(session);
     if place < engine.seats.len() && place < engine.undos.len() && 0 < engine.journal.spare() {
         engine.end(session, done);
@@ -216,9 +253,18 @@ fn step(
     }
 }
 
+// A call that dies may be tried again three times.
+fn engine(alloc: Global) -> Result<Engine, AllocError> {
+    Engine::new(alloc, tables(alloc)?, 4, 3)
+}
+
+// No call is tried again.
+fn engine_without_retries(alloc: Global) -> Result<Engine, AllocError> {
+    Engine::new(alloc, tables(alloc)?, 4, 0)
+}
+
 // How many cases come before the first that is told otherwise.
-fn as_told(alloc: Global, cases: &[Case]) -> Result<usize, AllocError> {
-    let mut engine = Engine::new(alloc, tables(alloc)?, 4, 3)?;
+fn as_told(alloc: Global, mut engine: Engine, cases: &[Case]) -> Result<usize, AllocError> {
     let mut right = 0usize;
     for (session, what, value, answer, number) in cases.iter() {
         let (told, with) = step(alloc, &mut engine, *session, *what, *value)?;
@@ -233,12 +279,45 @@ fn as_told(alloc: Global, cases: &[Case]) -> Result<usize, AllocError> {
 #[test]
 fn sessions_are_told(rt: HostRuntime) -> Result<(), Fail> {
     let alloc = rt.alloc();
-    assert_eq!(rt; as_told(alloc, YOUNGER_DIES.as_slice())?, 5);
-    assert_eq!(rt; as_told(alloc, OLDER_WAITS.as_slice())?, 6);
-    assert_eq!(rt; as_told(alloc, READERS_SHARE.as_slice())?, 5);
-    assert_eq!(rt; as_told(alloc, THROW_IS_UNDONE.as_slice())?, 5);
-    assert_eq!(rt; as_told(alloc, DROP_IS_UNDONE.as_slice())?, 6);
-    assert_eq!(rt; as_told(alloc, DEAD_CALL_COMES_AGAIN.as_slice())?, 10);
-    assert_eq!(rt; as_told(alloc, REFUSED_INSERT_LOCKS.as_slice())?, 4);
+    assert_eq!(rt; as_told(alloc, engine(alloc)?, YOUNGER_DIES.as_slice())?, 5);
+    assert_eq!(rt; as_told(alloc, engine(alloc)?, OLDER_WAITS.as_slice())?, 6);
+    assert_eq!(rt;
+        as_told(alloc, engine(alloc)?, READERS_SHARE.as_slice())?,
+        5
+    );
+    assert_eq!(rt;
+        as_told(alloc, engine(alloc)?, THROW_IS_UNDONE.as_slice())?,
+        5
+    );
+    assert_eq!(rt;
+        as_told(alloc, engine(alloc)?, DROP_IS_UNDONE.as_slice())?,
+        6
+    );
+    assert_eq!(rt;
+        as_told(alloc, engine(alloc)?, DEAD_CALL_COMES_AGAIN.as_slice())?,
+        10
+    );
+    assert_eq!(rt;
+        as_told(alloc, engine(alloc)?, REFUSED_INSERT_LOCKS.as_slice())?,
+        4
+    );
+    Ok(())
+}
+
+#[test]
+fn dead_calls_are_told(rt: HostRuntime) -> Result<(), Fail> {
+    let alloc = rt.alloc();
+    assert_eq!(rt;
+        as_told(alloc, engine(alloc)?, READERS_BECOME_WRITERS.as_slice())?,
+        13
+    );
+    assert_eq!(rt;
+        as_told(
+            alloc,
+            engine_without_retries(alloc)?,
+            DEAD_CALL_IS_OVER.as_slice()
+        )?,
+        8
+    );
     Ok(())
 }

@@ -19,7 +19,6 @@ abbrev pub all_used : List Operand → List ℕ
 all_used [] = []
 all_used (a ∷ rest) = used a ++ all_used rest
 
--- a call's receiver is no use
 abbrev pub uses : Word → List ℕ
 uses (w.Set to a) = used a
 uses (w.Op op to a b) = used a ++ used_or b
@@ -30,7 +29,7 @@ uses (w.Store of index a) = (used of ++ used index) ++ used a
 uses (w.Len to of) = used of
 uses (w.New to class site) = []
 uses (w.Array to element size site) = used size
-uses (w.Call to of method args) = all_used args
+uses (w.Call to of method args) = used of ++ all_used args
 uses (w.Query to number site params) = all_used params
 uses (w.Update to number params) = all_used params
 uses (w.Next to of) = used of

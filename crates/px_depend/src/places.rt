@@ -81,7 +81,19 @@ fn add_all(node: u32, operands: &[Operand], into: &mut Vec<Place>) -> Result<(),
     Ok(())
 }
 
-/// The uses of a statement; a call's receiver is none.
+fn add_first_and(
+    node: u32,
+    first: &Operand,
+    rest: &[Operand],
+    into: &mut Vec<Place>,
+) -> Result<(), AllocError>
+    ensures { OnOk result (into.new.items ≡ into.old.items ++ places_at node (used first.now ++ all_used rest.now)) }
+{
+    add_use(node, first, into)?;
+    add_all(node, rest, into)
+}
+
+/// The uses of a statement.
 pub fn add_uses(node: u32, word: &Word, into: &mut Vec<Place>) -> Result<(), AllocError>
     ensures { OnOk result (into.new.items ≡ into.old.items ++ places_at node (uses word.now)) }
 {
@@ -121,10 +133,10 @@ pub fn add_uses(node: u32, word: &Word, into: &mut Vec<Place>) -> Result<(), All
         } => add_use(node, length, into),
         Word::Call {
             to: _,
-            of: _,
+            of,
             method: _,
             args,
-        } => add_all(node, args.as_slice(), into),
+        } => add_first_and(node, of, args.as_slice(), into),
         Word::Query {
             to: _,
             statement: _,

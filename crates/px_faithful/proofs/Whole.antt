@@ -1,5 +1,5 @@
 -- A legal history, each of whose events is its session's own, is the serial run of the source.
-use Rattle.std.proofs.Common.{◌≡◌, ℕ, zero, suc, ◌<◌, ◌≤◌, ◌==◌, true, List, [], ◌∷◌, ◌++◌, length, All, Option, Some, None, is_some, slice_get, reverse, refl, sym, ap, ◌∙◌, subst, arith, inl, inr}
+use Rattle.std.proofs.Common.{◌≡◌, ℕ, zero, suc, ◌+◌, ◌<◌, ◌≤◌, ◌==◌, true, List, [], ◌∷◌, ◌++◌, length, All, Option, Some, None, is_some, slice_get, reverse, refl, sym, ap, ◌∙◌, subst, arith, inl, inr}
 use Rattle.std.proofs.lemmas.Bool.{both_ways, cases_Bool, cond-true, cond-false, eqb-true}
 use Rattle.std.proofs.lemmas.List.{reverse-append}
 use Rattle.px_semantics.specs.Serial.{Call}
@@ -15,8 +15,11 @@ use Rattle.px_history.proofs.Progress.{begun_due, some_moves}
 use Rattle.px_history.proofs.Counts.{events_few}
 use Rattle.px_history.proofs.Serially.{serially, serial_in_order}
 use Rattle.px_faithful.specs.Jobs.{Heap, calls_of, meaning_of, job_of}
-use Rattle.px_faithful.specs.Faithful.{Job, AreOfSessions, LegalAndOwnIsSerial, SomeoneGoesOn, FewEvents}
+use Rattle.px_faithful.specs.Faithful.{Job, AreOfSessions, LegalAndOwnIsSerial, SomeoneGoesOn, FewEvents, FewTries, FewInAll}
+use Rattle.px_faithful.proofs.Granted.{grants_of}
 use Rattle.px_faithful.proofs.Runs.{bounded}
+use Rattle.px_faithful.proofs.Totals.{AreWithin, few_in_all as by_totals}
+use Rattle.px_faithful.proofs.Tries.{tries_few}
 use Rattle.px_faithful.proofs.Stands.{IsCall, AreCalls, runs_all, start_agrees}
 
 core_guard : Guards core_locks
@@ -99,7 +102,30 @@ legal_and_own_is_serial P job T0 h a f =
     }
 
 pub someone_goes_on : SomeoneGoesOn
-someone_goes_on P job T0 grants h f b s c d = some_moves Heap (meaning_of P job.calls) (job_of job.calls job.retries job.parts) core_locks T0 grants h f.legal b s c d
+someone_goes_on P job T0 h f s c d =
+    let g = grants_of (job_of job.calls job.retries job.parts) core_locks h f.legal in
+    some_moves Heap (meaning_of P job.calls) (job_of job.calls job.retries job.parts) core_locks T0 g.0 h f.legal g.1 s c d
 
 pub few_events : FewEvents
 few_events P job T0 h f s = events_few Heap (meaning_of P job.calls) (bounded P job.calls) (job_of job.calls job.retries job.parts) core_locks T0 h f.legal f.own s
+
+pub few_tries : FewTries
+few_tries P job T0 h f s w = tries_few (job_of job.calls job.retries job.parts) core_locks h f.legal s w
+
+-- each event is of one of the job's sessions
+active_within : (job : Job) → AreOfSessions job → (h : List Event) → IsLegal (job_of job.calls job.retries job.parts) core_locks h → (s : ℕ) → is_active s h ≡ true → (1 ≤ s) × (s ≤ job.sessions)
+active_within job a h l s i = (end_call job a h l s i).1.there
+
+events_within : (job : Job) → AreOfSessions job → (h : List Event) → IsLegal (job_of job.calls job.retries job.parts) core_locks h → AreWithin job.sessions h
+events_within job a [] l = tt
+events_within job a (Begin s c n ∷ h) l = ((is_call job.sessions job.calls a s c (l.0.listed).0 (l.0.listed).1).1.there, events_within job a h l.1)
+events_within job a (Op s o ∷ h) l = (active_within job a h l.1 s l.0.active, events_within job a h l.1)
+events_within job a (Die s o x ∷ h) l = (active_within job a h l.1 s l.0.active, events_within job a h l.1)
+events_within job a (End s d ∷ h) l = (active_within job a h l.1 s l.0.active, events_within job a h l.1)
+events_within job a (Drop s ∷ h) l = (active_within job a h l.1 s l.0, events_within job a h l.1)
+
+pub few_in_all : FewInAll
+few_in_all P job T0 h a f w = by_totals job.sessions (job.retries + 1) job.calls h a (events_within job a h f.legal) (λ s.
+    let one = few_events P job T0 h f s in
+    let two = few_tries P job T0 h f s (w s) in
+    omega (arith, one, two))

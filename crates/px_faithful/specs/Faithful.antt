@@ -1,7 +1,6 @@
 -- Faithful histories. A history has its latest event first.
-use Rattle.std.specs.Prelude.{◌≡◌, ℕ, ◌≤◌, ◌*◌, List, All, reverse, Some}
+use Rattle.std.specs.Prelude.{◌≡◌, ℕ, ◌≤◌, ◌+◌, ◌*◌, false, List, All, length, reverse, Some}
 use Rattle.px_rows.specs.Tables.{Tables}
-use Rattle.px_locks.specs.declared.want.Grant.{Grant}
 use Rattle.px_semantics.specs.Facts.{by_number}
 use Rattle.px_semantics.specs.Calls.{Source}
 use Rattle.px_semantics.specs.Serial.{Call, serial}
@@ -9,11 +8,11 @@ use Rattle.px_semantics.specs.Asks.{by_tables}
 use Rattle.px_history.specs.declared.event.Event.{Event}
 use Rattle.px_history.specs.Legal.{IsLegal}
 use Rattle.px_history.specs.Locking.{core_locks}
-use Rattle.px_history.specs.Booked.{IsBooked}
 use Rattle.px_history.specs.State.{tables_of}
 use Rattle.px_history.specs.Serial.{IsOwn, journal, told_of, heap_of}
 use Rattle.px_history.specs.Moves.{IsDue, CanMove, made, tries}
-use Rattle.px_faithful.specs.Jobs.{meaning_of, job_of, listed}
+use Rattle.px_faithful.specs.Drops.{dropped}
+use Rattle.px_faithful.specs.Jobs.{calls_of, meaning_of, job_of, listed}
 
 -- a job of sessions from 1 to a number, with its calls and what it allows
 pub record Job : Type 0 where
@@ -43,9 +42,18 @@ pub record IsSerialRun (P : Source) (job : Job) (T0 : Tables) (h : List Event) :
 abbrev pub LegalAndOwnIsSerial : Type 0
 LegalAndOwnIsSerial = (P : Source) (job : Job) (T0 : Tables) (h : List Event) → AreOfSessions job → IsLegalAndOwn P job T0 h → IsSerialRun P job T0 h
 
+-- while a call of a session isn't over some session can make an event
 abbrev pub SomeoneGoesOn : Type 0
-SomeoneGoesOn = (P : Source) (job : Job) (T0 : Tables) (grants : List Grant) (h : List Event) → IsLegalAndOwn P job T0 h → IsBooked core_locks grants h
+SomeoneGoesOn = (P : Source) (job : Job) (T0 : Tables) (h : List Event) → IsLegalAndOwn P job T0 h
     → (s c : ℕ) → IsDue (job_of job.calls job.retries job.parts) h s c → (y : ℕ) × CanMove (meaning_of P job.calls) (job_of job.calls job.retries job.parts) core_locks T0 h y
 
 abbrev pub FewEvents : Type 0
 FewEvents = (P : Source) (job : Job) (T0 : Tables) (h : List Event) → IsLegalAndOwn P job T0 h → (s : ℕ) → made s h ≤ 102 * tries s h
+
+-- a session that gave no call up tries each call as often as it may, at most
+abbrev pub FewTries : Type 0
+FewTries = (P : Source) (job : Job) (T0 : Tables) (h : List Event) → IsLegalAndOwn P job T0 h → (s : ℕ) → dropped s h ≡ false → tries s h ≤ length (calls_of s job.calls) * (job.retries + 1)
+
+-- where no call was given up, all sessions together make few events
+abbrev pub FewInAll : Type 0
+FewInAll = (P : Source) (job : Job) (T0 : Tables) (h : List Event) → AreOfSessions job → IsLegalAndOwn P job T0 h → ((s : ℕ) → dropped s h ≡ false) → length h ≤ 102 * (length job.calls * (job.retries + 1))

@@ -1,2 +1,3 @@
+pub mod Drops
 pub mod Faithful
 pub mod Jobs

@@ -1,113 +1,117 @@
--- What a session serves by the code, it serves by the source.
-use Rattle.std.proofs.Common.{◌≡◌, ℕ, ◌+◌, true, List, [], ◌∷◌, length, map, Option, Some, None, refl, sym, ap, ◌∙◌, subst}
-use Rattle.std.specs.List.{AllByRecursion}
-use Rattle.std.proofs.lemmas.List.{length-map}
-use Rattle.px_value.specs.declared.ty.Ty.{Ty}
+-- What two ends serve by the code, they serve by the source.
+use Rattle.std.proofs.Common.{◌≡◌, ℕ, zero, suc, List, [], ◌∷◌, length, map, Some, None, Ok, slice_get, refl, sym, ap, ◌∙◌, subst}
 use Rattle.px_value.specs.declared.value.Value.{Value}
 use Rattle.px_value.specs.declared.object.Object.{Object}
 use Rattle.px_value.specs.declared.header.Kind.TheVariants as kind
-use Rattle.px_value.specs.Outcome.{Outcome, Gives, Throws, Asks, Shared}
-use Rattle.px_value.specs.Defaults.{default_of}
-use Rattle.px_lex.specs.declared.tree.Member.{Member}
-use Rattle.px_lex.specs.declared.tree.Member.TheVariants as member
-use Rattle.px_types.specs.declared.checked.Checked.{Checked}
-use Rattle.px_types.specs.declared.checked.Entry.{Entry}
-use Rattle.px_types.specs.Members.{methods_of, methods_in}
-use Rattle.px_types.specs.Programs.{is_main, entries_from}
-use Rattle.px_code.specs.declared.class.Field.{Field}
-use Rattle.px_code.specs.declared.code.Code.{Code}
+use Rattle.px_value.specs.Outcome.{Gives, Throws, Asks}
+use Rattle.px_value.specs.Defaults as plain
+use Rattle.px_facts.specs.declared.checked.Checked.{Checked}
+use Rattle.px_code.specs.declared.code.Code.{Code as SimpleCode}
+use Rattle.px_code.specs.declared.class.Field.{Field as SimpleField}
 use Rattle.px_code.specs.declared.plan.Plan.{Plan}
 use Rattle.px_code.specs.declared.reply.Done.{Done}
-use Rattle.px_code.specs.Sound.{CodeOutcome, run_of}
+use Rattle.px_code.specs.Sound.{CodeOutcome, run_of as simple_run}
 use Rattle.px_code.specs.Stale.{Event}
-use Rattle.px_mean.specs.Serial.{ended, call_of, first_heap}
-use Rattle.px_mean.specs.Facts.{named_ty}
-use Rattle.px_mean.specs.Program.{field_types, program_fields}
-use Rattle.px_half.specs.End.{first_object, first_objects}
-use Rattle.px_lower.specs.Programs.{field_decls, lowered_fields, main_members, lowered}
-use Rattle.px_lower.specs.Law.{untraced}
-use Rattle.px_lower.specs.WellFormed.{IsJudged}
-use Rattle.px_lower.proofs.Frames.{keeps_meaning, main_of}
-use Rattle.px_lower.proofs.WellFormed.{kept}
-use Rattle.px_split_job.specs.declared.job.Call.{Call as JobCall}
-use Rattle.px_split_job.specs.Fitting.{IsFitting}
+use Rattle.px_half.specs.End.{fields_of as types_in, class_defaults, first_object}
+use Rattle.px_rows.specs.Tables.{Tables}
+use Rattle.px_semantics.specs.Asks.{by_tables}
+use Rattle.px_semantics.specs.Facts as source
+use Rattle.px_semantics.specs.Program.{source_from}
+use Rattle.px_semantics.specs.Entry.{Called as Meant, ended, exec, first_heap}
+use Rattle.px_normal.specs.declared.ty.Ty.{Ty as CodeTy}
+use Rattle.px_normal.specs.declared.ty.Ty.TheVariants as code_ty
+use Rattle.px_normal.specs.declared.class.Class.{Class}
+use Rattle.px_normal.specs.declared.class.Field.{Field}
+use Rattle.px_normal.specs.First.{default_of, field_default, fields_in}
+use Rattle.px_normal.specs.Run.{untraced}
+use Rattle.px_lowering.specs.Programs.{lowered}
+use Rattle.px_preservation.proofs.Program.{same_program}
+use Rattle.px_straight.specs.Simple.{simple_type, simple_field, simple_class}
+use Rattle.px_straight.specs.Straight.{straight}
+use Rattle.px_straight.specs.Laws.{told_run}
+use Rattle.px_straight.proofs.Whole.{keeps_numbers}
+use Rattle.px_straight.proofs.Runs.{runs_as_code}
 use Rattle.px_session.specs.Serving.{Call, Called, Calling, called_as, by_code, IsServed, AreServed, none, more}
-use Rattle.px_main.specs.Solo.{asked, left_by, by_source}
-use Rattle.px_main.proofs.Callable.{IsTaken, TakesAs, entries_take, all_taken}
+use Rattle.px_main.specs.Known.{IsKnown}
+use Rattle.px_main.specs.Solo.{code_of, left_by, by_source}
+use Rattle.px_main.proofs.Accepted.{typed_code, classes_known, meaning_kept}
+
+-- the code is that of the program, as two ends have it
+pub simple_is : (c : Checked) (simple : SimpleCode) → straight (lowered c) ≡ Ok simple → simple ≡ code_of c
+simple_is c simple s = keeps_numbers (lowered c) simple s
 
 -- ---- one call
 
-left_as : (heap : List Object) (o : CodeOutcome) → left_by (ended heap tt (untraced o)) ≡ called_as heap o
-left_as heap (Gives None s) = refl
-left_as heap (Gives (Some v) s) = refl
-left_as heap (Throws t s) = refl
-left_as heap (Asks q s) = absurd q
+-- what a call left of which nothing was asked and printed, over this world
+abbrev pub with_world : {W : Type 0} → W → Called → Meant W
+with_world world c = record { reply = c.reply; prints = []; heap = c.heap; world = world }
 
-same_call : (P : Checked) (heap : List Object) (c : Call) → is_main P.program.classes ≡ true → IsTaken (methods_of P.program) c → by_code (lowered P) heap c ≡ by_source P heap c
-unfolding call_of
-same_call P heap c main takes =
-    sym (ap (λ (o : Outcome ⊥ (Shared (Unit {0})) (Option Value)). left_by (ended heap tt o)) (keeps_meaning ⊥ (Unit {0}) P heap tt c.method c.args main takes) ∙ left_as heap (run_of (lowered P) heap c.method c.args))
+left_as : {W : Type 0} (heap : List Object) (world : W) (o : CodeOutcome) → ended heap world (untraced (told_run heap world o)) ≡ with_world world (called_as heap o)
+left_as heap world (Gives None s) = refl
+left_as heap world (Gives (Some v) s) = refl
+left_as heap world (Throws t s) = refl
+left_as heap world (Asks q s) = absurd q
+
+-- a call by the source leaves what it leaves by the code, and the tables as they were
+pub same_ended : (c : Checked) → IsKnown c → (simple : SimpleCode) → straight (lowered c) ≡ Ok simple → (heap : List Object) (T : Tables) (method : ℕ) (args : List Value)
+    → ended heap T (exec by_tables (source_from c) heap T method args) ≡ with_world T (called_as heap (simple_run simple heap method args))
+same_ended c k simple s heap T method args =
+    ap (ended heap T) (meaning_kept _ Tables c k by_tables heap T method args ∙ ap untraced (runs_as_code _ Tables (lowered c) simple (typed_code c k) s by_tables heap T method args))
+    ∙ left_as heap T (simple_run simple heap method args)
+
+same_call : (c : Checked) → IsKnown c → (simple : SimpleCode) → straight (lowered c) ≡ Ok simple → (T : Tables) (heap : List Object) (call : Call) → by_code simple heap call ≡ by_source c T heap call
+same_call c k simple s T heap call = sym (ap left_by (same_ended c k simple s heap T call.method call.args))
 
 -- ---- all calls
 
-abbrev AreSame : Calling → Calling → Call → Type 0
-AreSame f g c = (heap : List Object) → f heap c ≡ g heap c
-
-served_alike : (f g : Calling) (plan : Plan) {heap : List Object} {events : List Event} {calls : List Call} {dones : List Done} → AllByRecursion (AreSame f g) calls → AreServed f plan heap events calls dones → AreServed g plan heap events calls dones
+pub served_alike : (f g : Calling) (plan : Plan) → ((heap : List Object) (call : Call) → f heap call ≡ g heap call) → {heap : List Object} {events : List Event} {calls : List Call} {dones : List Done} → AreServed f plan heap events calls dones → AreServed g plan heap events calls dones
 served_alike f g plan same none = none
-served_alike f g plan {heap = heap} same (more {before = before} {after = after} {c = c} {calls = calls} {done = done} {dones = dones} one rest) =
+served_alike f g plan same {heap = heap} (more {before = before} {after = after} {c = c} {calls = calls} {done = done} {dones = dones} one rest) =
     more
-    (subst (λ (x : Called). IsServed plan heap c x.reply before done after) (same.0 heap) one)
-    (subst (λ (x : Called). AreServed g plan x.heap after calls dones) (same.0 heap) (served_alike f g plan same.1 rest))
-
-all_same : (P : Checked) → is_main P.program.classes ≡ true → (calls : List Call) → AllByRecursion (IsTaken (methods_of P.program)) calls → AllByRecursion (AreSame (by_code (lowered P)) (by_source P)) calls
-all_same P main [] taken = tt
-all_same P main (c ∷ calls) taken = (λ heap. same_call P heap c main taken.0, all_same P main calls taken.1)
+    (subst (λ (x : Called). IsServed plan heap c x.reply before done after) (same heap c) one)
+    (subst (λ (x : Called). AreServed g plan x.heap after calls dones) (same heap c) (served_alike f g plan same rest))
 
 -- ---- the first heap
 
-abbrev types_of : List Field → List Ty
-types_of fields = map (λ (f : Field). f.ty) fields
+same_default : (t : CodeTy) → plain.default_of (simple_type t) ≡ default_of t
+same_default code_ty.Int = refl
+same_default code_ty.Long = refl
+same_default code_ty.Bool = refl
+same_default code_ty.Text = refl
+same_default code_ty.Rows = refl
+same_default (code_ty.Object class) = refl
+same_default (code_ty.Array element) = refl
 
-same_types : (before : ℕ) (ms : List Member) → types_of (lowered_fields before (field_decls ms)) ≡ field_types ms
-same_types before [] = refl
-same_types before (member.Field f ∷ ms) = ap (λ (ts : List Ty). named_ty f.ty ∷ ts) (same_types (before + 1) ms)
-same_types before (member.Method m ∷ ms) = same_types before ms
+same_fields : (fields : List Field) → map plain.default_of (map (λ (f : SimpleField). f.ty) (map simple_field fields)) ≡ map field_default fields
+same_fields [] = refl
+same_fields (f ∷ fields) = λ i. same_default f.ty i ∷ same_fields fields i
 
--- an object of Main with these fields
-object_of : List Ty → Object
-object_of types = record { header = record { kind = kind.Object 0; site = 0; length = length (map default_of types) }; cells = map default_of types }
+same_cells : (classes : List Class) (class : ℕ) → map plain.default_of (types_in (slice_get (map simple_class classes) class)) ≡ map field_default (fields_in (slice_get classes class))
+same_cells [] class = refl
+same_cells (c ∷ classes) zero = same_fields c.fields
+same_cells (c ∷ classes) (suc class) = same_cells classes class
 
-object_is : (types : List Ty) → object_of types ∷ [] ≡ first_heap types
-unfolding object_of
-object_is types = ap (λ n. record { header = record { kind = kind.Object 0; site = 0; length = n }; cells = map default_of types } ∷ []) (length-map types default_of)
+-- an object of this class with these cells
+object_of : ℕ → List Value → Object
+object_of class cells = record { header = record { kind = kind.Object class; site = 0; length = length cells }; cells = cells }
 
-lowered_object : (P : Checked) → (before : ℕ) × (first_object (lowered P) ≡ object_of (types_of (lowered_fields before (field_decls (main_members P.program.classes)))))
+first_as : (c : Checked) → first_object (code_of c) ≡ object_of c.facts.main.class (class_defaults (code_of c) c.facts.main.class)
 unfolding lowered object_of
-lowered_object P = (_, refl)
+first_as c = refl
 
-first_is : (P : Checked) → is_main P.program.classes ≡ true → first_object (lowered P) ∷ [] ≡ first_heap (program_fields P.program)
-first_is P main =
-    let lower = lowered_object P in
-    ap (λ (o : Object). o ∷ []) lower.1
-    ∙ ap (λ (types : List Ty). object_of types ∷ []) (same_types lower.0 (main_members P.program.classes) ∙ ap field_types (sym (main_of P.program.classes main)))
-    ∙ object_is (program_fields P.program)
+first_from : (c : Checked) → object_of c.facts.main.class (map source.default_of (source.fields_of c.facts c.facts.main.class)) ∷ [] ≡ first_heap c.facts
+unfolding object_of
+first_from c = refl
 
--- ---- the calls of a job
+pub first_is : (c : Checked) → IsKnown c → first_object (code_of c) ∷ [] ≡ first_heap c.facts
+first_is c k =
+    let main = c.facts.main.class in
+    let cells = same_cells (lowered c).classes main ∙ (same_program c (classes_known c k)).fresh main in
+    ap (λ (o : Object). o ∷ []) (first_as c ∙ ap (object_of main) cells) ∙ first_from c
 
-entries_are : (P : Checked) → IsJudged P → AllByRecursion (TakesAs (methods_of P.program)) P.entries
-entries_are P j =
-    let k = kept P j in
-    let all = ap (λ (ms : List Member). entries_from 1 (methods_in ms)) (main_of P.program.classes k.main) ∙ k.entries in
-    subst (λ (es : List Entry). AllByRecursion (TakesAs (methods_of P.program)) es) all (entries_take (methods_of P.program))
-
-pub as_source : (P : Checked) → IsJudged P → (plan : Plan) → plan.code ≡ lowered P → (calls : List JobCall) → AllByRecursion (IsFitting P.entries) calls → (dones : List Done)
-    → AreServed (by_code plan.code) plan (first_objects (Some plan)) [] (map (asked P.entries) calls) dones
-    → AreServed (by_source P) plan (first_heap (program_fields P.program)) [] (map (asked P.entries) calls) dones
-as_source P j plan code calls fits dones h =
-    let k = kept P j in
-    let wanted = map (asked P.entries) calls in
-    let taken = all_taken (methods_of P.program) P.entries (entries_are P j) calls fits in
-    let first = ap (λ (c : Code). first_object c ∷ []) code ∙ first_is P k.main in
-    let by = subst (λ (c : Code). AreServed (by_code c) plan (first_objects (Some plan)) [] wanted dones) code h in
-    served_alike (by_code (lowered P)) (by_source P) plan (all_same P k.main wanted taken) (subst (λ (heap : List Object). AreServed (by_code (lowered P)) plan heap [] wanted dones) first by)
+-- what two ends serve of calls from the first heap by the code, they serve by the source
+pub as_source : (c : Checked) → IsKnown c → (simple : SimpleCode) → straight (lowered c) ≡ Ok simple → (T : Tables) (plan : Plan) (calls : List Call) (dones : List Done)
+    → AreServed (by_code simple) plan (first_object simple ∷ []) [] calls dones → AreServed (by_source c T) plan (first_heap c.facts) [] calls dones
+as_source c k simple s T plan calls dones h =
+    let first = ap (λ (x : SimpleCode). first_object x ∷ []) (simple_is c simple s) ∙ first_is c k in
+    subst (λ (heap : List Object). AreServed (by_source c T) plan heap [] calls dones) first (served_alike (by_code simple) (by_source c T) plan (same_call c k simple s T) h)

@@ -1,5 +1,5 @@
 -- What the answers of `whole` cite.
-use Rattle.std.proofs.Common.{◌≡◌, ℕ, List, Option, Some, None, Ok, Err, sym, ap, ◌∙◌}
+use Rattle.std.proofs.Common.{◌≡◌, ℕ, Option, Some, None, Ok, Err, sym, ap}
 use Rattle.std.specs.Option.{option_map}
 use Rattle.px_tree.specs.declared.Program.{Program}
 use Rattle.px_facts.specs.declared.checked.Checked.{Checked}
@@ -10,7 +10,7 @@ use Rattle.px_rules.specs.Programs.{first_breach_of}
 use Rattle.px_rules.specs.Checked as rules
 use Rattle.px_main.specs.declared.fault.ProgramCode.TheVariants.{Rule}
 use Rattle.px_value.specs.declared.schema.Schema.{Schema}
-use Rattle.px_main.specs.Whole.{Found, fault_at, by_rules}
+use Rattle.px_main.specs.Whole.{fault_at, by_rules}
 
 checked_by : (p : Program) (S : Schema) (c : Checked) (first : Option Breach) → c ≡ rules.checked_of p S → option_map (rules.fault_at p.tokens) first ≡ None → Ok c ≡ by_rules p S first
 checked_by p S c None is none = ap (λ (x : Checked). Ok x) is

@@ -1,5 +1,5 @@
 -- The numbers of calls among those of their sessions.
-use Rattle.std.proofs.Common.{◌≡◌, ◌≢◌, ℕ, zero, suc, ◌+◌, ◌≤◌, ◌<◌, ◌⊎◌, inl, inr, List, [], ◌∷◌, ◌++◌, length, replicate, get_or, set, slice_get, refl, sym, ap, ◌∙◌, subst, arith, length-append}
+use Rattle.std.proofs.Common.{◌≡◌, ℕ, zero, suc, ◌+◌, ◌≤◌, List, [], ◌∷◌, ◌++◌, length, replicate, set, slice_get, refl, sym, ap, ◌∙◌, subst, arith, length-append}
 use Rattle.px_code.specs.declared.reply.Shown.{Shown}
 use Rattle.px_job.specs.declared.job.Call.{Call as JobCall}
 use Rattle.px_report.specs.declared.calls.ShownCall.{ShownCall}

@@ -1,20 +1,21 @@
 -- The report of calls that were served.
-use Rattle.std.proofs.Common.{◌≡◌, ℕ, List, [], ◌∷◌, map, Result, Ok, Err, IfOk, sym, ap, ◌∙◌}
+use Rattle.std.proofs.Common.{◌≡◌, ℕ, List, map, Result, Ok, Err, IfOk, sym, ap, ◌∙◌}
 use Rattle.px_value.specs.declared.object.Object.{Object}
-use Rattle.px_types.specs.declared.checked.Checked.{Checked}
+use Rattle.px_facts.specs.declared.checked.Checked.{Checked}
 use Rattle.px_code.specs.declared.event.Event.{Event}
 use Rattle.px_code.specs.declared.reply.Done.{Done}
-use Rattle.px_mean.specs.declared.serial.Session.{Session}
-use Rattle.px_mean.specs.declared.serial.Made.{Made}
-use Rattle.px_mean.specs.Serial.{Served}
-use Rattle.px_plain.specs.Serial.{left}
-use Rattle.px_split_job.specs.declared.job.SplitJob.{SplitJob}
+use Rattle.px_code.specs.declared.reply.Shown.{Shown}
+use Rattle.px_rows.specs.Tables.{Tables}
+use Rattle.px_interpreter.specs.Serial.{ran_of}
+use Rattle.px_job.specs.declared.job.Job.{Job}
 use Rattle.px_report.specs.History.{report_text}
-use Rattle.px_main.specs.Solo.{class_names, heap_of, history_of, serial_of, AreDone, IsReport}
+use Rattle.px_main.specs.Run.{Ran, class_names, run_of}
+use Rattle.px_main.specs.Solo.{part_name, history_of, AreDone, IsReport}
 
-pub reported : (P : Checked) (job : SplitJob) (dones : List Done) (events : List Event) (made : List Made) (sessions : List Session) (heaps : List (List Object)) (classes : List (List ℕ)) → AreDone P job.part.sides job.calls dones → events ≡ history_of dones → serial_of P job.calls ≡ left made sessions → heaps ≡ map heap_of sessions → classes ≡ class_names P.program
-    → {A E : Type 0} (text : A → List ℕ) (r : Result A E) → IfOk r (λ a. text a ≡ report_text classes (job.part.name ∷ []) events heaps) → IfOk r (λ a. IsReport P job (text a))
-reported P job dones events made sessions heaps classes done history run held names text (Ok a) h =
-    let ends : heaps ≡ map heap_of (serial_of P job.calls).sessions = held ∙ sym (ap (λ (s : Served (Unit {0})). map heap_of s.sessions) run) in
-    record { dones = dones; done = done; text_is = h ∙ (λ i. report_text (names i) (job.part.name ∷ []) (history i) (ends i)) }
-reported P job dones events made sessions heaps classes done history run held names text (Err e) h = tt
+pub reported : (c : Checked) (job : Job) (dones : List Done) (events : List Event) (shown : List Shown) (heaps told : List (List Object)) (tables : Tables) (classes parts : List (List ℕ)) → AreDone c job dones → events ≡ history_of dones → run_of c job ≡ ran_of shown heaps tables → told ≡ heaps → classes ≡ class_names c.program → parts ≡ map part_name job.parts
+    → {A E : Type 0} (text : A → List ℕ) (r : Result A E) → IfOk r (λ a. text a ≡ report_text classes c.schema parts events tables told) → IfOk r (λ a. IsReport c job (text a))
+reported c job dones events shown heaps told tables classes parts done history run held names named text (Ok a) h =
+    let heap : told ≡ (run_of c job).1.heaps = held ∙ sym (ap (λ (r : Ran). r.1.heaps) run) in
+    let table : tables ≡ (run_of c job).1.world = sym (ap (λ (r : Ran). r.1.world) run) in
+    record { dones = dones; done = done; text_is = h ∙ (λ i. report_text (names i) c.schema (named i) (history i) (table i) (heap i)) }
+reported c job dones events shown heaps told tables classes parts done history run held names named text (Err e) h = tt

@@ -1,24 +1,16 @@
 -- What a command answers over the bytes of its files: a status, and all that is to be written with it.
-use Rattle.std.specs.Prelude.{◌≡◌, ℕ, List, [], ◌∷◌, ◌++◌, length, Option, Some, None, Result, Ok, Err, codes, decimal, nat_lt, if◌then◌else◌}
-use Rattle.px_lex.specs.declared.tree.Program.{Program}
-use Rattle.px_lex.specs.Unbuilt.{unbuilt_line}
-use Rattle.px_parse.specs.Programs.{IsProgram}
-use Rattle.px_types.specs.declared.checked.Checked.{Checked}
-use Rattle.px_facts.specs.declared.checked.Checked.{Checked as WholeChecked}
-use Rattle.px_types.specs.declared.program.Known.{Known}
-use Rattle.px_types.specs.Programs.{judged}
-use Rattle.px_lower.specs.Programs.{lowered}
-use Rattle.px_lowering.specs.Programs.{lowered as whole_lowered}
+use Rattle.std.specs.Prelude.{◌≡◌, ℕ, false, List, [], ◌∷◌, ◌++◌, length, Option, Some, None, Result, Ok, Err, codes, decimal, nat_lt, if◌then◌else◌}
+use Rattle.px_facts.specs.declared.checked.Checked.{Checked}
+use Rattle.px_code.specs.declared.code.Code.{Code}
+use Rattle.px_lowering.specs.Programs.{lowered}
+use Rattle.px_straight.specs.Straight.{straight}
 use Rattle.px_job.specs.declared.job.Job.{Job}
 use Rattle.px_job.specs.declared.job.JobFault.{JobFault}
 use Rattle.px_job.specs.declared.job.JobCode.{JobCode}
 use Rattle.px_job.specs.declared.job.JobCode.TheVariants as code
+use Rattle.px_job.specs.Lines.{lines_of}
 use Rattle.px_job.specs.Jobs.{job_of}
-use Rattle.px_split_job.specs.declared.job.JobFault.{JobFault as SplitFault}
-use Rattle.px_split_job.specs.declared.job.JobCode.{JobCode as SplitCode}
-use Rattle.px_split_job.specs.declared.job.JobCode.TheVariants as split_code
-use Rattle.px_split_job.specs.declared.job.SplitJob.{SplitJob}
-use Rattle.px_split_job.specs.SplitJobs.{split_job_of}
+use Rattle.px_job.specs.Beyond.{beyond_from}
 use Rattle.px_report.specs.Lines.{line}
 use Rattle.px_main.specs.declared.command.Kind.{Kind}
 use Rattle.px_main.specs.declared.command.Kind.TheVariants.{Run, Solo}
@@ -26,7 +18,7 @@ use Rattle.px_main.specs.declared.fault.Fault.{Fault}
 use Rattle.px_main.specs.declared.fault.ProgramCode.{ProgramCode}
 use Rattle.px_main.specs.declared.fault.ProgramCode.TheVariants.{TooLong, Syntax, Rule, Later}
 use Rattle.px_main.specs.Commands.{Command, Checks, Serves}
-use Rattle.px_main.specs.Whole.{Found, fault_at, IsFound, JudgesWhole}
+use Rattle.px_main.specs.Whole.{Found, fault_at, JudgesWhole}
 use Rattle.px_main.specs.Run.{run_of, text_of}
 use Rattle.px_main.specs.Solo.{IsReport}
 
@@ -40,40 +32,22 @@ max_job = 16777216
 abbrev pub kept : ℕ → List ℕ → Option (List ℕ)
 kept limit file = if nat_lt limit (length file) then None else Some file
 
--- ---- the program of `solo`, which is built for the small language
+-- ---- the program of `solo`
 
-abbrev pub refused_at : ℕ → ProgramCode → Result Checked Fault
-refused_at number code = Err (fault_at number code)
+-- a program by its code: two ends take all of it, or not the statement at this line
+abbrev pub unless_later : Checked → Result Code ℕ → Found
+unless_later c (Ok simple) = Ok c
+unless_later c (Err number) = Err (fault_at number Later)
 
--- what the checker of the small language knows of the program; where it knows nothing, a form in it isn't built yet
-abbrev pub typed : Program → Option Known → Result Checked Fault
-typed program None = refused_at 0 Later
-typed program (Some known) = Ok (record { program = program; facts = known.facts; entries = known.entries })
+abbrev pub taken : Found → Found
+taken (Err fault) = Err fault
+taken (Ok c) = unless_later c (straight (lowered c))
 
--- A text by the grammar of the small language, which gives it one program at most.
-pub data IsParsed (bytes : List ℕ) (outcome : Result Checked Fault) : Type 0 where
-  unbuilt : ((p : Program) → IsProgram bytes p → ⊥) → outcome ≡ refused_at 0 Later → IsParsed bytes outcome
-  built : (p : Program) → IsProgram bytes p → outcome ≡ typed p (judged p) → IsParsed bytes outcome
-
-abbrev pub IsTaken : List ℕ → Found → Result Checked Fault → Type 0
-IsTaken bytes (Err fault) outcome = outcome ≡ Err fault
-IsTaken bytes (Ok checked) outcome = IsParsed bytes outcome
-
--- what is found in the text by the rules of the whole language, and what comes of it
-pub record IsRuled (bytes : List ℕ) (outcome : Result Checked Fault) : Type 0 where
+-- What comes of a program file that is served by two ends: what is found in it, and then whether they take it.
+pub record JudgesSplit (program : Option (List ℕ)) (outcome : Found) : Type 0 where
   pub found : Found
-  pub is_found : IsFound bytes found
-  pub taken : IsTaken bytes found outcome
-
-abbrev pub IsBuilt : List ℕ → Option ℕ → Result Checked Fault → Type 0
-IsBuilt bytes (Some number) outcome = outcome ≡ refused_at number Later
-IsBuilt bytes None outcome = IsRuled bytes outcome
-
--- What comes of a program file that is served by two ends, of which nothing is kept where it is too long. The first of these applies:
--- it is too long; a form in it isn't built yet; there is a fault in its text; it is accepted.
-abbrev pub Judges : Option (List ℕ) → Result Checked Fault → Type 0
-Judges None outcome = outcome ≡ refused_at 0 TooLong
-Judges (Some bytes) outcome = IsBuilt bytes (unbuilt_line bytes) outcome
+  pub judged : JudgesWhole program found
+  pub is : outcome ≡ taken found
 
 -- ---- the answer
 
@@ -108,20 +82,6 @@ job_code code.J18 = codes "J18"
 job_code code.J19 = codes "J19"
 job_code code.J20 = codes "J20"
 
--- of a job with a part
-abbrev pub split_job_code : SplitCode → List ℕ
-split_job_code split_code.Later = codes "Later"
-split_job_code split_code.J1 = codes "J1"
-split_job_code split_code.J4 = codes "J4"
-split_job_code split_code.J5 = codes "J5"
-split_job_code split_code.J10 = codes "J10"
-split_job_code split_code.J11 = codes "J11"
-split_job_code split_code.J12 = codes "J12"
-split_job_code split_code.J13 = codes "J13"
-split_job_code split_code.J14 = codes "J14"
-split_job_code split_code.J17 = codes "J17"
-split_job_code split_code.J18 = codes "J18"
-
 abbrev pub refused_program : Fault → Answer
 refused_program f = (5, line (codes "program" ∷ decimal f.line ∷ program_code f.code ∷ []))
 
@@ -131,50 +91,63 @@ refused_job number name = (6, line (codes "job" ∷ decimal number ∷ name ∷ 
 abbrev pub refused_by : JobFault → Answer
 refused_by f = refused_job f.line (job_code f.code)
 
-abbrev pub split_refused_by : SplitFault → Answer
-split_refused_by f = refused_job f.line (split_job_code f.code)
+-- a job that is read by `solo`, which takes no line that two ends don't take yet
+abbrev pub taken_job : Option ℕ → Job → Result Job JobFault
+taken_job None job = Ok job
+taken_job (Some number) job = Err (record { line = number; code = code.Later })
+
+abbrev pub taken_if : Option ℕ → Result Job JobFault → Result Job JobFault
+taken_if beyond (Err f) = Err f
+taken_if beyond (Ok job) = taken_job beyond job
+
+-- the job of a file for an accepted program
+abbrev pub job_for : Checked → List ℕ → Result Job JobFault
+job_for c bytes = job_of c c.schema (lowered c) bytes
+
+abbrev pub solo_job_for : Checked → List ℕ → Result Job JobFault
+solo_job_for c bytes = taken_if (beyond_from 1 false (lines_of bytes)) (job_for c bytes)
 
 -- `a` is an answer over the job that was read, or over what is wrong with it: `run` has one
-abbrev pub AnswersCalls : WholeChecked → Result Job JobFault → Answer → Type 0
+abbrev pub AnswersCalls : Checked → Result Job JobFault → Answer → Type 0
 AnswersCalls c (Err f) a = a ≡ refused_by f
 AnswersCalls c (Ok job) a = a ≡ (0, text_of c job (run_of c job))
 
--- the same of a job with a part: `solo` answers with a report
-abbrev pub AnswersSplit : Checked → Result SplitJob SplitFault → Answer → Type 0
-AnswersSplit c (Err f) a = a ≡ split_refused_by f
+-- `solo` answers with a report
+abbrev pub AnswersSplit : Checked → Result Job JobFault → Answer → Type 0
+AnswersSplit c (Err f) a = a ≡ refused_by f
 AnswersSplit c (Ok job) a = (a.0 ≡ 0) × IsReport c job a.1
 
 -- what a command makes of an accepted program and a job
-abbrev pub Answering : Type 0 → Type 1
-Answering C = C → List ℕ → Answer → Type 0
+abbrev pub Answering : Type 1
+Answering = Checked → List ℕ → Answer → Type 0
 
-abbrev pub answers_run : Answering WholeChecked
-answers_run c job a = AnswersCalls c (job_of c c.schema (whole_lowered c) job) a
+abbrev pub answers_run : Answering
+answers_run c job a = AnswersCalls c (job_for c job) a
 
-abbrev pub answers_solo : Answering Checked
-answers_solo c job a = AnswersSplit c (split_job_of c.entries (lowered c) job) a
+abbrev pub answers_solo : Answering
+answers_solo c job a = AnswersSplit c (solo_job_for c job) a
 
-abbrev pub AnswersJob : {C : Type 0} → Answering C → C → Option (List ℕ) → Answer → Type 0
+abbrev pub AnswersJob : Answering → Checked → Option (List ℕ) → Answer → Type 0
 AnswersJob answers c None a = a ≡ refused_job 0 (codes "J2")
 AnswersJob answers c (Some job) a = answers c job a
 
-abbrev pub AnswersProgram : {C : Type 0} → Answering C → Result C Fault → Option (List ℕ) → Answer → Type 0
+abbrev pub AnswersProgram : Answering → Found → Option (List ℕ) → Answer → Type 0
 AnswersProgram answers (Err f) job a = a ≡ refused_program f
 AnswersProgram answers (Ok c) job a = AnswersJob answers c job a
 
 -- what comes of a program file
-abbrev pub Judging : Type 0 → Type 1
-Judging C = Option (List ℕ) → Result C Fault → Type 0
+abbrev pub Judging : Type 1
+Judging = Option (List ℕ) → Found → Type 0
 
 -- `a` is an answer of a command that judges so and answers so, over what was kept of its two files
-pub record IsAnswerBy {C : Type 0} (judges : Judging C) (answers : Answering C) (program job : Option (List ℕ)) (a : Answer) : Type 0 where
-  pub outcome : Result C Fault
+pub record IsAnswerBy (judges : Judging) (answers : Answering) (program job : Option (List ℕ)) (a : Answer) : Type 0 where
+  pub outcome : Found
   pub judged : judges program outcome
   pub answered : AnswersProgram answers outcome job a
 
 abbrev pub IsAnswer : Kind → Option (List ℕ) → Option (List ℕ) → Answer → Type 0
 IsAnswer Run program job a = IsAnswerBy JudgesWhole answers_run program job a
-IsAnswer Solo program job a = IsAnswerBy Judges answers_solo program job a
+IsAnswer Solo program job a = IsAnswerBy JudgesSplit answers_solo program job a
 
 -- the same over the files
 abbrev pub Answers : Kind → List ℕ → List ℕ → Answer → Type 0
@@ -195,33 +168,30 @@ FixesBoth kind (Some program) (Some job) a = Answers kind program job a
 -- ---- the status alone
 
 -- of a job that was read
-abbrev pub status_read : {A F : Type 0} → Result A F → ℕ
+abbrev pub status_read : Result Job JobFault → ℕ
 status_read (Err f) = 6
 status_read (Ok job) = 0
 
-abbrev pub status_run : WholeChecked → List ℕ → ℕ
-status_run c job = status_read (job_of c c.schema (whole_lowered c) job)
+abbrev pub Reading : Type 0
+Reading = Checked → List ℕ → Result Job JobFault
 
-abbrev pub status_solo : Checked → List ℕ → ℕ
-status_solo c job = status_read (split_job_of c.entries (lowered c) job)
+abbrev pub status_of_job : Reading → Checked → Option (List ℕ) → ℕ
+status_of_job reads c None = 6
+status_of_job reads c (Some job) = status_read (reads c job)
 
-abbrev pub status_of_job : {C : Type 0} → (C → List ℕ → ℕ) → C → Option (List ℕ) → ℕ
-status_of_job status c None = 6
-status_of_job status c (Some job) = status c job
+abbrev pub status_of : Reading → Found → Option (List ℕ) → ℕ
+status_of reads (Err f) job = 5
+status_of reads (Ok c) job = status_of_job reads c job
 
-abbrev pub status_of : {C : Type 0} → (C → List ℕ → ℕ) → Result C Fault → Option (List ℕ) → ℕ
-status_of status (Err f) job = 5
-status_of status (Ok c) job = status_of_job status c job
-
--- the program is judged, and then the job
-pub record HasStatusBy {C : Type 0} (judges : Judging C) (status : C → List ℕ → ℕ) (program job : Option (List ℕ)) (n : ℕ) : Type 0 where
-  pub outcome : Result C Fault
+-- the program is judged, and then the job is read
+pub record HasStatusBy (judges : Judging) (reads : Reading) (program job : Option (List ℕ)) (n : ℕ) : Type 0 where
+  pub outcome : Found
   pub judged : judges program outcome
-  pub is : status_of status outcome job ≡ n
+  pub is : status_of reads outcome job ≡ n
 
 abbrev pub HasStatus : Kind → Option (List ℕ) → Option (List ℕ) → ℕ → Type 0
-HasStatus Run program job n = HasStatusBy JudgesWhole status_run program job n
-HasStatus Solo program job n = HasStatusBy Judges status_solo program job n
+HasStatus Run program job n = HasStatusBy JudgesWhole job_for program job n
+HasStatus Solo program job n = HasStatusBy JudgesSplit solo_job_for program job n
 
 abbrev pub Statuses : Kind → List ℕ → List ℕ → ℕ → Type 0
 Statuses kind program job n = HasStatus kind (kept max_program program) (kept max_job job) n

@@ -1,6 +1,9 @@
 pub mod Commands
 pub mod Run
 pub mod Solo
+pub mod Known
+pub mod Split
+pub mod Served
 pub mod Whole
 pub mod Answers
 pub mod Ends

@@ -1,5 +1,5 @@
 -- The serial run of a job by the meaning of the source, and its text.
-use Rattle.std.specs.Prelude.{ℕ, ◌+◌, List, [], ◌∷◌, map, replicate, length, get_or, set, Option, Some, None, slice_get, if◌then◌else◌}
+use Rattle.std.specs.Prelude.{ℕ, ◌+◌, List, [], ◌∷◌, map, replicate, get_or, set, Option, Some, None, slice_get, if◌then◌else◌}
 use Rattle.px_value.specs.declared.schema.Schema.{Schema}
 use Rattle.px_code.specs.declared.reply.Shown.{Shown}
 use Rattle.px_tree.specs.declared.Program.{Program}

@@ -48,14 +48,3 @@ pub data IsFound (bytes : List ℕ) (found : Found) : Type 0 where
 abbrev pub JudgesWhole : Option (List ℕ) → Found → Type 0
 JudgesWhole None found = found ≡ Err (fault_at 0 TooLong)
 JudgesWhole (Some bytes) found = IsFound bytes found
-
--- ---- the fault alone
-
-abbrev pub fault_in : Found → Option Fault
-fault_in (Ok checked) = None
-fault_in (Err fault) = Some fault
-
-pub record HasFault (bytes : List ℕ) (fault : Option Fault) : Type 0 where
-  pub found : Found
-  pub is_found : IsFound bytes found
-  pub is : fault ≡ fault_in found

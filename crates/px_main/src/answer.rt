@@ -1,25 +1,21 @@
 //! The answer over two files.
 ghost use Rattle.std.specs.Prelude.{◌≡◌, ◌≤◌, length, IfOk, IfSome};
 ghost use Rattle.std.specs.Option.{option_map};
-ghost use Rattle.px_lower.specs.WellFormed.{IsJudged};
+ghost use Rattle.px_job.specs.Jobs.{Gives};
 ghost use Rattle.px_main.specs.Whole.{JudgesWhole};
-ghost use Rattle.px_main.specs.Answers.{IsAnswer, IsAnswerBy, IsChecked, Judges, answers_run, answers_solo, AnswersJob, refused_program, refused_job, refused_by, split_refused_by, program_code as code_of_program, job_code as code_of_job, split_job_code as code_of_split_job, max_program, max_job};
+ghost use Rattle.px_main.specs.Known.{IsSplit};
+ghost use Rattle.px_main.specs.Answers.{IsAnswer, IsAnswerBy, IsChecked, JudgesSplit, answers_run, answers_solo, solo_job_for, AnswersJob, refused_program, refused_job, refused_by, program_code as code_of_program, job_code as code_of_job, max_program, max_job};
 
 use crate::command::Kind;
 use crate::fault::{Fault, ProgramCode};
-use crate::judge::judge;
+use crate::judge::{Split, judge_split};
 use crate::run::run;
 use crate::solo::solo;
 use crate::whole::judge_whole;
-use px_facts::Checked as WholeChecked;
-use px_job::{JobCode, JobError, JobFault, read_job};
-use px_lower::lower;
-use px_lowering::lower as lower_whole;
+use px_facts::Checked;
+use px_job::{Job, JobCode, JobError, JobFault, first_beyond, read_job};
+use px_lowering::lower;
 use px_report::refusal_text;
-use px_split_job::{
-    JobCode as SplitCode, JobError as SplitError, JobFault as SplitFault, read_split_job,
-};
-use px_types::Checked;
 use std::alloc::{AllocError, Global};
 
 /// A status, and all that is to be written with it.
@@ -67,25 +63,6 @@ fn job_code(code: JobCode) -> &'static [u8]
     }
 }
 
-// Of a job with a part.
-fn split_job_code(code: SplitCode) -> &'static [u8]
-    ensures { result.now ≡ code_of_split_job code }
-{
-    match code {
-        SplitCode::Later => b"Later",
-        SplitCode::J1 => b"J1",
-        SplitCode::J4 => b"J4",
-        SplitCode::J5 => b"J5",
-        SplitCode::J10 => b"J10",
-        SplitCode::J11 => b"J11",
-        SplitCode::J12 => b"J12",
-        SplitCode::J13 => b"J13",
-        SplitCode::J14 => b"J14",
-        SplitCode::J17 => b"J17",
-        SplitCode::J18 => b"J18",
-    }
-}
-
 fn program_refused(alloc: Global, fault: Fault) -> Result<Prepared, AllocError>
     ensures { IfOk result (λ a. (a.status, a.text.items) ≡ refused_program fault) }
 {
@@ -107,17 +84,11 @@ fn refused(alloc: Global, fault: JobFault) -> Result<Prepared, AllocError>
     job_refused(alloc, fault.line, job_code(fault.code))
 }
 
-fn split_refused(alloc: Global, fault: SplitFault) -> Result<Prepared, AllocError>
-    ensures { IfOk result (λ a. (a.status, a.text.items) ≡ split_refused_by fault) }
-{
-    job_refused(alloc, fault.line, split_job_code(fault.code))
-}
-
-fn answer_run(alloc: Global, checked: &WholeChecked, bytes: &[u8]) -> Result<Prepared, AllocError>
+fn answer_run(alloc: Global, checked: &Checked, bytes: &[u8]) -> Result<Prepared, AllocError>
     requires { length bytes.now ≤ max_job }
     ensures { IfOk result (λ a. answers_run checked.now bytes.now (a.status, a.text.items)) }
 {
-    let code = lower_whole(alloc, checked)?;
+    let code = lower(alloc, checked)?;
     match read_job(alloc, bytes, checked, &checked.schema, &code) {
         Ok(job) => {
             let text = run(alloc, checked, &job)?;
@@ -128,28 +99,45 @@ fn answer_run(alloc: Global, checked: &WholeChecked, bytes: &[u8]) -> Result<Pre
     }
 }
 
-fn answer_solo(alloc: Global, checked: &Checked, bytes: &[u8]) -> Result<Prepared, AllocError>
-    requires judged { IsJudged checked.now }
+// A job that two ends take.
+fn read_taken(alloc: Global, split: &Split, bytes: &[u8]) -> Result<Job, JobError>
+    requires split { IsSplit split.now }
     requires fits { length bytes.now ≤ max_job }
-    ensures { IfOk result (λ a. answers_solo checked.now bytes.now (a.status, a.text.items)) }
+    ensures { Gives result (solo_job_for split.now.checked bytes.now) }
 {
-    let code = lower(alloc, checked)?;
-    match read_split_job(alloc, bytes, checked.entries.as_slice(), &code) {
+    let Split { checked, code, .. } = split;
+    let job = read_job(alloc, bytes, checked, &checked.schema, code)?;
+    match first_beyond(bytes) {
+        None => Ok(job),
+        Some(line) => {
+            let code = JobCode::Later;
+            Err(JobError::Fault(JobFault { line, code }))
+        }
+    }
+}
+
+fn answer_solo(alloc: Global, split: Split, bytes: &[u8]) -> Result<Prepared, AllocError>
+    requires split { IsSplit split }
+    requires fits { length bytes.now ≤ max_job }
+    ensures { IfOk result (λ a. answers_solo split.checked bytes.now (a.status, a.text.items)) }
+{
+    match read_taken(alloc, &split, bytes) {
         Ok(job) => {
-            let text = solo(alloc, checked, code, job)?;
+            let Split {
+                checked,
+                simple,
+                ..
+            } = split;
+            let text = solo(alloc, &checked, simple, &job)?;
             Ok(Prepared { status: 0, text })
         }
-        Err(SplitError::Fault(fault)) => split_refused(alloc, fault),
-        Err(SplitError::NoMemory) => Err(AllocError),
+        Err(JobError::Fault(fault)) => refused(alloc, fault),
+        Err(JobError::NoMemory) => Err(AllocError),
     }
 }
 
 // The answer of `run` for a program that is accepted.
-fn run_job(
-    alloc: Global,
-    checked: &WholeChecked,
-    job: &Option<Vec<u8>>,
-) -> Result<Prepared, AllocError>
+fn run_job(alloc: Global, checked: &Checked, job: &Option<Vec<u8>>) -> Result<Prepared, AllocError>
     requires { IfSome job.now (λ bytes. length bytes.items ≤ max_job) }
     ensures { IfOk result (λ a. AnswersJob answers_run checked.now (option_map (λ v. v.items) job.now) (a.status, a.text.items)) }
 {
@@ -160,13 +148,13 @@ fn run_job(
 }
 
 // The answer of `solo` for a program that is accepted.
-fn solo_job(alloc: Global, checked: &Checked, job: &Option<Vec<u8>>) -> Result<Prepared, AllocError>
-    requires judged { IsJudged checked.now }
+fn solo_job(alloc: Global, split: Split, job: &Option<Vec<u8>>) -> Result<Prepared, AllocError>
+    requires split { IsSplit split }
     requires fits { IfSome job.now (λ bytes. length bytes.items ≤ max_job) }
-    ensures { IfOk result (λ a. AnswersJob answers_solo checked.now (option_map (λ v. v.items) job.now) (a.status, a.text.items)) }
+    ensures { IfOk result (λ a. AnswersJob answers_solo split.checked (option_map (λ v. v.items) job.now) (a.status, a.text.items)) }
 {
     match job {
-        Some(bytes) => answer_solo(alloc, checked, bytes.as_slice()),
+        Some(bytes) => answer_solo(alloc, split, bytes.as_slice()),
         None => job_refused(alloc, 0, b"J2"),
     }
 }
@@ -193,10 +181,10 @@ fn solo_answer(
 ) -> Result<Prepared, AllocError>
     requires program { IfSome program.now (λ bytes. length bytes.items ≤ max_program) }
     requires job { IfSome job.now (λ bytes. length bytes.items ≤ max_job) }
-    ensures { IfOk result (λ a. IsAnswerBy Judges answers_solo (option_map (λ v. v.items) program.now) (option_map (λ v. v.items) job.now) (a.status, a.text.items)) }
+    ensures { IfOk result (λ a. IsAnswerBy JudgesSplit answers_solo (option_map (λ v. v.items) program.now) (option_map (λ v. v.items) job.now) (a.status, a.text.items)) }
 {
-    match judge(alloc, program)? {
-        Ok(checked) => solo_job(alloc, &checked, job),
+    match judge_split(alloc, program)? {
+        Ok(split) => solo_job(alloc, split, job),
         Err(fault) => program_refused(alloc, fault),
     }
 }

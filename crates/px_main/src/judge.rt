@@ -1,67 +1,56 @@
 //! What comes of a program file that is served by two ends.
 ghost use Rattle.std.specs.Prelude.{◌≡◌, ◌≤◌, length, IfSome, IfOk};
 ghost use Rattle.std.specs.Option.{option_map};
-ghost use Rattle.px_lower.specs.WellFormed.{IsJudged};
-ghost use Rattle.px_main.specs.Answers.{IsParsed, IsRuled, Judges, max_program};
+ghost use Rattle.px_main.specs.Answers.{JudgesSplit, taken, max_program};
+ghost use Rattle.px_main.specs.Known.{IsKnown, IsSplit};
+ghost use Rattle.px_main.specs.Split.{found_in};
 
 use crate::fault::{Fault, ProgramCode};
-use crate::whole::first_fault;
-use px_lex::first_unbuilt;
-use px_parse::{ParseError, parse};
-use px_types::{CheckError, Checked, check};
+use crate::whole::judge_whole;
+use px_facts::Checked;
+use px_lowering::lower;
+use px_straight::straighten;
 use std::alloc::{AllocError, Global};
 
-// What the checker of the small language makes of a text.
-fn parsed_program(alloc: Global, bytes: &[u8]) -> Result<Result<Checked, Fault>, AllocError>
-    requires { length bytes.now ≤ max_program }
-    ensures judged { IfOk result (λ judged. IsParsed bytes.now judged) }
-    ensures keeps { IfOk result (λ judged. IfOk judged IsJudged) }
-{
-    let later = Fault {
-        line: 0,
-        code: ProgramCode::Later,
-    };
-    let program = match parse(alloc, bytes) {
-        Ok(program) => program,
-        Err(ParseError::Syntax) => return Ok(Err(later)),
-        Err(ParseError::NoMemory) => return Err(AllocError),
-    };
-    match check(alloc, program) {
-        Ok(checked) => Ok(Ok(checked)),
-        Err(CheckError::Faulty) => Ok(Err(later)),
-        Err(CheckError::NoMemory) => Err(AllocError),
-    }
+/// A program that two ends take: what is known of it, its code, and the same code as two ends have it.
+#[derive(Drop)]
+pub struct Split {
+    pub checked: Checked,
+    pub code: px_normal::Code,
+    pub simple: px_code::Code,
 }
 
-// A text without forms that aren't built yet.
-fn ruled_program(alloc: Global, bytes: &[u8]) -> Result<Result<Checked, Fault>, AllocError>
-    requires { length bytes.now ≤ max_program }
-    ensures judged { IfOk result (λ judged. IsRuled bytes.now judged) }
-    ensures keeps { IfOk result (λ judged. IfOk judged IsJudged) }
+// An accepted program by its code.
+fn split_code(alloc: Global, checked: Checked) -> Result<Result<Split, Fault>, AllocError>
+    requires { IsKnown checked }
+    ensures found { IfOk result (λ judged. found_in judged ≡ taken (Ok checked)) }
+    ensures split { IfOk result (λ judged. IfOk judged IsSplit) }
 {
-    match first_fault(alloc, bytes)? {
-        Some(fault) => Ok(Err(fault)),
-        None => parsed_program(alloc, bytes),
+    let code = lower(alloc, &checked)?;
+    match straighten(alloc, &code)? {
+        Ok(simple) => Ok(Ok(Split {
+            checked,
+            code,
+            simple,
+        })),
+        Err(line) => {
+            let code = ProgramCode::Later;
+            Ok(Err(Fault { line, code }))
+        }
     }
 }
 
 /// Judges what was kept of a program file; nothing was where it is too long.
-pub fn judge(alloc: Global, bytes: &Option<Vec<u8>>) -> Result<Result<Checked, Fault>, AllocError>
+pub fn judge_split(
+    alloc: Global,
+    bytes: &Option<Vec<u8>>,
+) -> Result<Result<Split, Fault>, AllocError>
     requires { IfSome bytes.now (λ bytes. length bytes.items ≤ max_program) }
-    ensures judged { IfOk result (λ judged. Judges (option_map (λ bytes. bytes.items) bytes.now) judged) }
-    ensures keeps { IfOk result (λ judged. IfOk judged IsJudged) }
+    ensures judged { IfOk result (λ judged. JudgesSplit (option_map (λ bytes. bytes.items) bytes.now) (found_in judged)) }
+    ensures split { IfOk result (λ judged. IfOk judged IsSplit) }
 {
-    match bytes {
-        None => {
-            let code = ProgramCode::TooLong;
-            Ok(Err(Fault { line: 0, code }))
-        }
-        Some(bytes) => match first_unbuilt(alloc, bytes.as_slice())? {
-            Some(line) => {
-                let code = ProgramCode::Later;
-                Ok(Err(Fault { line, code }))
-            }
-            None => ruled_program(alloc, bytes.as_slice()),
-        },
+    match judge_whole(alloc, bytes)? {
+        Ok(checked) => split_code(alloc, checked),
+        Err(fault) => Ok(Err(fault)),
     }
 }

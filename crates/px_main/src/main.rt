@@ -6,7 +6,6 @@ mod command;
 mod fault;
 mod files;
 mod judge;
-mod members;
 mod run;
 mod serial;
 mod solo;

@@ -1,70 +1,16 @@
-//! The serial run of a job, and its text.
-ghost use Rattle.std.specs.Prelude.{◌≡◌, ◌<◌, ◌+◌, ◌-◌, ◌^◌, map, IfOk, OnOk};
+//! The text of a serial run.
+ghost use Rattle.std.specs.Prelude.{◌≡◌, ◌<◌, ◌+◌, ◌-◌, ◌^◌, IfOk};
 ghost use Rattle.std.specs.Option.{option_copied};
-ghost use Rattle.px_interpreter.specs.Serial.{told_call};
-ghost use Rattle.px_main.specs.Run.{wanted, with_row, tables_of, session_in, count_of, counted, no_counts, shown_from, run_of, text_of};
+ghost use Rattle.px_main.specs.Run.{session_in, count_of, counted, no_counts, shown_from, run_of, text_of};
 
+use crate::serial::{class_names, run_serial};
 use px_code::Shown;
 use px_facts::Checked;
-use px_interpreter::{Call, Ran, serve};
-use px_job::{Job, Row};
+use px_interpreter::Ran;
+use px_job::Job;
 use px_report::{ShownCall, run_text};
-use px_rows::{LoadError, Tables};
-use px_tree::Class;
-use px_value::{Schema, Text, Value, Values};
 use sqlite_items::at;
 use std::alloc::{AllocError, Global};
-
-fn copied(alloc: Global, values: &[Value]) -> Result<Values, AllocError>
-    ensures { IfOk result (λ all. all ≡ values.now) }
-{
-    let mut all = Values::new(alloc);
-    for value in values {
-        all.push(value.copy(alloc)?)?;
-    }
-    Ok(all)
-}
-
-fn load_row(alloc: Global, tables: &mut Tables, row: &Row) -> Result<(), AllocError>
-    ensures { OnOk result (tables.new ≡ with_row tables.old row.now) }
-{
-    let values = copied(alloc, row.values.as_slice())?;
-    match tables.load(alloc, row.table, values) {
-        Ok(()) | Err(LoadError::Doubled) => Ok(()),
-        Err(LoadError::NoMemory) => Err(AllocError),
-    }
-}
-
-// The tables before the first call.
-fn load_rows(alloc: Global, schema: &Schema, rows: &[Row]) -> Result<Tables, AllocError>
-    ensures { IfOk result (λ tables. tables ≡ tables_of schema.now rows.now) }
-{
-    let mut tables = Tables::new(alloc, schema)?;
-    for row in rows {
-        load_row(alloc, &mut tables, row)?;
-    }
-    Ok(tables)
-}
-
-fn wanted_call(call: &px_job::Call) -> Call<'_>
-    ensures { told_call result ≡ wanted call.now }
-{
-    Call {
-        session: call.session,
-        entry: call.entry,
-        args: call.args.as_slice(),
-    }
-}
-
-fn wanted_calls(alloc: Global, calls: &[px_job::Call]) -> Result<Vec<Call<'_>>, AllocError>
-    ensures { IfOk result (λ all. map told_call all.items ≡ map wanted calls.now) }
-{
-    let mut all = Vec::new(alloc);
-    for call in calls {
-        all.push(wanted_call(call))?;
-    }
-    Ok(all)
-}
 
 // No session has made a call.
 fn no_calls(alloc: Global, sessions: u16) -> Result<Vec<u64>, AllocError>
@@ -123,31 +69,17 @@ fn shown_calls(
     Ok(all)
 }
 
-// The names of classes, by number from 0.
-fn class_names(alloc: Global, classes: &[Class]) -> Result<Vec<Text>, AllocError>
-    ensures { IfOk result (λ all. all.items ≡ map (λ c. c.name.bytes) classes.now) }
-{
-    let mut all = Vec::new(alloc);
-    for class in classes {
-        all.push(Text::from_vec(Vec::from_slice(alloc, class.name.bytes.as_slice())?))?;
-    }
-    Ok(all)
-}
-
 /// The text of the serial run of a job.
 pub fn run(alloc: Global, checked: &Checked, job: &Job) -> Result<Vec<u8>, AllocError>
     ensures { IfOk result (λ text. text.items ≡ text_of checked.now job.now (run_of checked.now job.now)) }
 {
-    let sessions = job.settings.sessions;
-    let wanted = wanted_calls(alloc, job.calls.as_slice())?;
-    let tables = load_rows(alloc, &checked.schema, job.rows.as_slice())?;
-    let ran = serve(alloc, checked, tables, sessions, wanted.as_slice())?;
+    let ran = run_serial(alloc, checked, job)?;
     let Ran {
         shown,
         heaps,
         tables,
     } = ran;
-    let calls = shown_calls(alloc, sessions, job.calls.as_slice(), shown)?;
+    let calls = shown_calls(alloc, job.settings.sessions, job.calls.as_slice(), shown)?;
     let names = class_names(alloc, checked.program.classes.as_slice())?;
     run_text(
         alloc,

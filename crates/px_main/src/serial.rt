@@ -1,76 +1,63 @@
-//! The serial run of a job of the small language, from the tree.
-ghost use Rattle.std.specs.Prelude.{◌≡◌, ◌≤◌, length, map, replicate, slice_get, IfOk};
-ghost use Rattle.px_mean.specs.Serial.{first_heap as mean_first_heap, first_session};
-ghost use Rattle.px_mean.specs.Program.{field_types};
-ghost use Rattle.px_plain.specs.View.{all_now};
-ghost use Rattle.px_plain.specs.Serial.{wanted as plain_wanted, left};
-ghost use Rattle.px_types.specs.Programs.{max_fields};
-ghost use Rattle.px_lower.specs.WellFormed.{IsJudged};
-ghost use Rattle.px_main.specs.Solo.{wanted, method_at, serial_of};
+//! The serial run of a job by the meaning of the source.
+ghost use Rattle.std.specs.Prelude.{◌≡◌, map, IfOk, OnOk};
+ghost use Rattle.px_interpreter.specs.Serial.{told_call, ran_of};
+ghost use Rattle.px_main.specs.Run.{wanted, with_row, tables_of, run_of};
 
-use crate::members::{first_cells, members, methods};
-use px_lex::tree::{Class, Member};
-use px_mean::Session;
-use px_plain::{Served, serve};
-use px_types::{Checked, Entry};
-use px_value::{AddError, Header, Heap, Kind, Text};
-use sqlite_items::at;
+use px_facts::Checked;
+use px_interpreter::{Call, Ran, serve};
+use px_job::{Job, Row};
+use px_rows::{LoadError, Tables};
+use px_tree::Class;
+use px_value::{Schema, Text, Value, Values};
 use std::alloc::{AllocError, Global};
 
-// A session's first heap: one object of Main.
-fn first_heap(alloc: Global, members: &[&Member]) -> Result<Heap, AllocError>
-    requires { length (field_types (all_now members.now)) ≤ max_fields }
-    ensures { IfOk result (λ heap. heap ≡ mean_first_heap (field_types (all_now members.now))) }
+fn copied(alloc: Global, values: &[Value]) -> Result<Values, AllocError>
+    ensures { IfOk result (λ all. all ≡ values.now) }
 {
-    let cells = first_cells(alloc, members)?;
-    let header = Header {
-        kind: Kind::Object(0),
-        site: 0,
-        length: cells.len() as u32,
-    };
-    let mut heap = Heap::new(alloc);
-    match heap.add(header, cells) {
-        Ok(_) => Ok(heap),
-        Err(AddError::NoMemory) => Err(AllocError),
-        Err(AddError::HeapFull) => unreachable!(),
+    let mut all = Values::new(alloc);
+    for value in values {
+        all.push(value.copy(alloc)?)?;
     }
-}
-
-// The one session that there is.
-fn first_sessions(alloc: Global, members: &[&Member]) -> Result<Vec<Session>, AllocError>
-    requires { length (field_types (all_now members.now)) ≤ max_fields }
-    ensures { IfOk result (λ all. all.items ≡ replicate 1 (first_session (field_types (all_now members.now)))) }
-{
-    let heap = first_heap(alloc, members)?;
-    let mut all = Vec::new(alloc);
-    all.push(Session { heap, calls: 0 })?;
     Ok(all)
 }
 
-/// The number of an entry's method, or 0 where there is no such entry.
-pub fn method_of(entries: &[Entry], entry: usize) -> u16
-    ensures { result ≡ method_at (slice_get entries.now entry) }
+fn load_row(alloc: Global, tables: &mut Tables, row: &Row) -> Result<(), AllocError>
+    ensures { OnOk result (tables.new ≡ with_row tables.old row.now) }
 {
-    match at(entries, entry) {
-        Some(entry) => entry.method,
-        None => 0,
+    let values = copied(alloc, row.values.as_slice())?;
+    match tables.load(alloc, row.table, values) {
+        Ok(()) | Err(LoadError::Doubled) => Ok(()),
+        Err(LoadError::NoMemory) => Err(AllocError),
     }
 }
 
-fn wanted_calls<'a>(
-    alloc: Global,
-    entries: &[Entry],
-    calls: &'a [px_split_job::Call],
-) -> Result<Vec<px_plain::Call<'a>>, AllocError>
-    ensures { IfOk result (λ all. map plain_wanted all.items ≡ map (wanted entries.now) calls.now) }
+// The tables before the first call.
+fn load_rows(alloc: Global, schema: &Schema, rows: &[Row]) -> Result<Tables, AllocError>
+    ensures { IfOk result (λ tables. tables ≡ tables_of schema.now rows.now) }
+{
+    let mut tables = Tables::new(alloc, schema)?;
+    for row in rows {
+        load_row(alloc, &mut tables, row)?;
+    }
+    Ok(tables)
+}
+
+fn wanted_call(call: &px_job::Call) -> Call<'_>
+    ensures { told_call result ≡ wanted call.now }
+{
+    Call {
+        session: call.session,
+        entry: call.entry,
+        args: call.args.as_slice(),
+    }
+}
+
+fn wanted_calls(alloc: Global, calls: &[px_job::Call]) -> Result<Vec<Call<'_>>, AllocError>
+    ensures { IfOk result (λ all. map told_call all.items ≡ map wanted calls.now) }
 {
     let mut all = Vec::new(alloc);
     for call in calls {
-        all.push(px_plain::Call {
-            session: call.session,
-            method: method_of(entries, call.entry),
-            args: call.args.as_slice(),
-        })?;
+        all.push(wanted_call(call))?;
     }
     Ok(all)
 }
@@ -86,25 +73,17 @@ pub fn class_names(alloc: Global, classes: &[Class]) -> Result<Vec<Text>, AllocE
     Ok(all)
 }
 
-/// The calls one after the other, by a session as new.
-#[tactic(auto, using(crate::proofs::Fields::few_fields))]
-pub fn run_serial(
-    alloc: Global,
-    checked: &Checked,
-    calls: &[px_split_job::Call],
-) -> Result<Served, AllocError>
-    requires { IsJudged checked.now }
-    ensures { IfOk result (λ served. serial_of checked.now calls.now ≡ left served.made.items served.sessions.items) }
+/// The calls of a job, one at a time, over its rows.
+pub fn run_serial(alloc: Global, checked: &Checked, job: &Job) -> Result<Ran, AllocError>
+    ensures { IfOk result (λ ran. run_of checked.now job.now ≡ ran_of ran.shown.items ran.heaps.items ran.tables) }
 {
-    let members = members(alloc, checked.program.classes.as_slice())?;
-    let methods = methods(alloc, members.as_slice())?;
-    let sessions = first_sessions(alloc, members.as_slice())?;
-    let calls = wanted_calls(alloc, checked.entries.as_slice(), calls)?;
+    let wanted = wanted_calls(alloc, job.calls.as_slice())?;
+    let tables = load_rows(alloc, &checked.schema, job.rows.as_slice())?;
     serve(
         alloc,
-        checked.facts.as_slice(),
-        methods.as_slice(),
-        calls.as_slice(),
-        sessions,
+        checked,
+        tables,
+        job.settings.sessions,
+        wanted.as_slice(),
     )
 }

@@ -4,7 +4,7 @@ ghost use Rattle.std.specs.Option.{option_map};
 ghost use Rattle.px_rules.specs.Programs.{first_breach_of};
 ghost use Rattle.px_sql.specs.Tables.{schema_of};
 ghost use Rattle.px_main.specs.Answers.{max_program};
-ghost use Rattle.px_main.specs.Whole.{fault_in as fault_of, by_rules, by_tables, table_line, HasFault, IsFound, JudgesWhole};
+ghost use Rattle.px_main.specs.Whole.{by_rules, by_tables, table_line, IsFound, JudgesWhole};
 
 use crate::fault::{Fault, ProgramCode};
 use px_facts::Checked;
@@ -71,24 +71,6 @@ fn find(alloc: Global, bytes: &[u8]) -> Result<Result<Checked, Fault>, AllocErro
         }
         Err(ParseError::NoMemory) => Err(AllocError),
     }
-}
-
-fn fault_in(found: &Result<Checked, Fault>) -> Option<Fault>
-    ensures { result ≡ fault_of found.now }
-{
-    match found {
-        Ok(_) => None,
-        Err(fault) => Some(*fault),
-    }
-}
-
-/// What is wrong with a text, or none.
-pub fn first_fault(alloc: Global, bytes: &[u8]) -> Result<Option<Fault>, AllocError>
-    requires { length bytes.now ≤ max_program }
-    ensures { IfOk result (λ fault. HasFault bytes.now fault) }
-{
-    let found = find(alloc, bytes)?;
-    Ok(fault_in(&found))
 }
 
 /// Judges what was kept of a program file; nothing was kept where it is too long.

@@ -1,7 +1,8 @@
-//! The text of a history, where its numbers are of all sizes and what is printed is escaped.
+//! The text of a history, where its numbers are of all sizes and what is printed is escaped, over a table with a row.
 use px_code::{Done, Event, Reply};
 use px_report::report_text;
-use px_value::{Text, Thrown, Value};
+use px_rows::Tables;
+use px_value::{Schema, Table, Text, Thrown, Value, Values};
 use sqlite_items::Items;
 use std::alloc::{AllocError, Global};
 use std::test::Fail;
@@ -47,6 +48,8 @@ const CASES: [Case; 3] = [
 begin 1 1 1
 end 1 -11 part app avg 0 moves 0 bytes 9 rehome 0
 tables
+table stock
+row 7 \"nut\"
 heaps
 done
 ",
@@ -68,6 +71,8 @@ end 16 threw NullPointerException part high avg 402 moves 4294967295 bytes 18446
 print 16 \"\"
 print 16 \"a \\\"b\\\"\\n\\t\\\\\"
 tables
+table stock
+row 7 \"nut\"
 heaps
 done
 ",
@@ -89,6 +94,8 @@ begin 2 3 10
 end 2 void part  avg 1 moves 2 bytes 3 rehome 4
 print 2 \"x\"
 tables
+table stock
+row 7 \"nut\"
 heaps
 done
 ",
@@ -130,13 +137,36 @@ fn events(alloc: Global, case: &Case) -> Result<Vec<Event>, AllocError> {
     Ok(vec![in alloc; begin, Event::End { session, done }]?)
 }
 
+// One table.
+fn schema(alloc: Global) -> Result<Schema, AllocError> {
+    let mut tables = Items::new(alloc);
+    tables.push(Table {
+        name: Text::from_vec(b"stock".to_vec(alloc)?),
+        columns: Items::new(alloc),
+    })?;
+    Ok(Schema { tables })
+}
+
+// One row in it.
+fn stocked(alloc: Global, schema: &Schema) -> Result<Tables, AllocError> {
+    let nut = Text::from_vec(b"nut".to_vec(alloc)?);
+    let row = vec![in alloc; Value::Long(7), Value::Text(nut)]?;
+    let mut tables = Tables::new(alloc, schema)?;
+    match tables.load(alloc, 0, Values::from_vec(row)) {
+        Ok(()) => Ok(tables),
+        Err(_) => Err(AllocError),
+    }
+}
+
 #[test]
 fn histories(rt: HostRuntime) -> Result<(), Fail> {
     let alloc = rt.alloc();
     let parts = texts(alloc, &PARTS)?;
+    let schema = schema(alloc)?;
+    let tables = stocked(alloc, &schema)?;
     for case in &CASES {
         let events = events(alloc, case)?;
-        let text = report_text(alloc, &[], &parts, &events, &[])?;
+        let text = report_text(alloc, &[], &schema, &parts, &events, &tables, &[])?;
         assert_eq!(rt; text.as_slice(), case.text.as_bytes());
     }
     Ok(())

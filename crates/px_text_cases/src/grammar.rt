@@ -5,7 +5,6 @@ mod nesting;
 mod places;
 mod prefixes;
 mod printed;
-mod small;
 mod trees;
 
 use px_grammar::{ParseError, parse};

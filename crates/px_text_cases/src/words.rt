@@ -1,6 +1,6 @@
 //! What of tokens and identifiers no clause says.
 use px_lex::TokenKind::{Bad, End, Id, Key, Number, Sign, Str};
-use px_lex::{Token, TokenKind, Word, first_unbuilt, is_identifier, lex, lexemes};
+use px_lex::{Token, TokenKind, Word, is_identifier, lex, lexemes};
 use std::alloc::{AllocError, Global};
 
 // Kind, first byte, byte behind the last, line.
@@ -215,44 +215,6 @@ fn words(alloc: Global, text: &[u8]) -> Result<Vec<Word>, AllocError> {
 fn tokens_have_these_words(rt: HostRuntime) -> Result<(), AllocError> {
     for (text, want) in WORDS {
         assert_eq!(rt; words(rt.alloc(), text)?.as_slice(), want, "at {text:?}");
-    }
-    Ok(())
-}
-
-const UNBUILT: [(&[u8], Option<u32>); 16] = [
-    (b"", None),
-    (
-        b"public class A {\n long f(long x) throws B {\n this.y = x + 1; }\n void g() { } }",
-        None,
-    ),
-    // Another token of the language, but no bad byte.
-    (b"class A {\n int x; }", Some(2)),
-    (b"\n\n@ +=", Some(3)),
-    (b"@\n#", None),
-    (b"\n\"a\"", Some(2)),
-    // A second class.
-    (b"class A { }\nclass B { }", Some(2)),
-    // A type that is a name.
-    (b"a\nb", Some(2)),
-    (b"A // x\n /* y */ @ b", None),
-    // A member of another object than `this`.
-    (b"this.\na.b", Some(2)),
-    (b"\n.a", Some(2)),
-    // A call.
-    (b"\nf(", Some(2)),
-    (b"void f(long g(", None),
-    (b"this.\nf(", Some(2)),
-    // A cast.
-    (b"(\nlong)", Some(2)),
-    (b"(\nlong x)", None),
-];
-
-#[test]
-fn unbuilt_forms_are_on_these_lines(rt: HostRuntime) -> Result<(), AllocError> {
-    for (text, want) in UNBUILT {
-        if text.len() < 1 << 31 {
-            assert_eq!(rt; first_unbuilt(rt.alloc(), text)?, want, "at {text:?}");
-        }
     }
     Ok(())
 }

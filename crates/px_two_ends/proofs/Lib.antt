@@ -1,2 +1,3 @@
 mod Own
-mod Programs
+pub mod Programs
+pub mod Numbers

@@ -21,15 +21,17 @@ use Rattle.px_accepted.proofs.KnownProgram.{accepted_public}
 use Rattle.px_accepted.proofs.UsedWell.{accepted_is_used_well}
 use Rattle.px_accepted.proofs.Limits.{accepted_keeps_limits}
 use Rattle.px_flow_points.proofs.Typing.{typed_numbers_exist}
+use Rattle.px_flow_points.specs.There.{NumbersExist}
 use Rattle.px_flow_points.specs.ByNode.{Found}
 use Rattle.px_blocks.specs.declared.side.Side.{Side}
 use Rattle.px_blocks.specs.declared.block.Blocks.{Blocks}
 use Rattle.px_blocks.specs.declared.placed.Placed.{Placed}
+use Rattle.px_plan.proofs.Pinned.{to_app}
 use Rattle.px_ends.specs.Calls.{Attempt}
 use Rattle.px_sound_plans.specs.Laws.{IsPlacedWell}
 use Rattle.px_sound_plans.specs.Runs.{IsCall}
 use Rattle.px_sound_plans.proofs.Entries.{calls_run_as_code, sessions_served}
-use Rattle.px_two_ends.specs.Laws.{code_of, IsSplit, IsCallOf, AcceptedIsPlacedWell, CallsRunAsPrograms, SessionsOfPrograms}
+use Rattle.px_two_ends.specs.Laws.{code_of, IsSplit, CompiledIsSplit, IsCallOf, AcceptedIsPlacedWell, CallsRunAsPrograms, SessionsOfPrograms}
 use Rattle.px_two_ends.proofs.Own.{own_node}
 
 module _ (bytes : List ℕ) (program : Program) (schema : Schema) (a : IsAccepted bytes program schema) where
@@ -45,12 +47,15 @@ module _ (bytes : List ℕ) (program : Program) (schema : Schema) (a : IsAccepte
   few : length code.methods < 2 ^ 16 - 1
   few = let h : length code.methods ≤ 2000 = (accepted_keeps_limits bytes program schema a).methods in omega (arith, h)
 
+  pub numbers_exist : NumbersExist code
+  numbers_exist = typed_numbers_exist code code_typed few
+
   pub placed_well : (found : Found) (sides : List Side) (placed : Placed) (blocks : Blocks) → IsSplit code found sides placed blocks → IsPlacedWell code found sides placed
   placed_well found sides placed blocks S =
       let d = program_classes bytes program a.program_is in
       record {
         typed = code_typed;
-        exist = typed_numbers_exist code code_typed few;
+        exist = numbers_exist;
         points = S.points;
         touched = S.touched;
         own = own_node code _ (nodes_are_in_order (checked_of program schema) source (accepted_is_used_well schema program d.0 d.1 a.kept));
@@ -67,6 +72,9 @@ module _ (bytes : List ℕ) (program : Program) (schema : Schema) (a : IsAccepte
   pub all_are : {W : Type 0} (attempts : List (Attempt W)) → AllByRecursion (λ (x : Attempt W). IsCallOf program schema x.method x.args) attempts → AllByRecursion (λ (x : Attempt W). IsCall code x.method x.args) attempts
   all_are [] all = tt
   all_are (x ∷ attempts) all = (call_is x.method x.args all.0, all_are attempts all.1)
+
+pub compiled_is_split : CompiledIsSplit
+compiled_is_split code found sides c points touched compiled = record { points = points; touched = touched; prints = to_app sides code compiled.pinned; sends = compiled.sends; cut = compiled.cut }
 
 pub accepted_is_placed_well : AcceptedIsPlacedWell
 accepted_is_placed_well bytes program schema a found sides placed blocks S = placed_well bytes program schema a found sides placed blocks S

@@ -26,6 +26,8 @@ use Rattle.px_blocks.specs.declared.block.Blocks.{Blocks}
 use Rattle.px_blocks.specs.declared.placed.Placed.{Placed}
 use Rattle.px_blocks.specs.Rules.{side_of, IsCut}
 use Rattle.px_sync.specs.Sends.{HasSends}
+use Rattle.px_plan.specs.Compiled.{IsCompiled}
+use Rattle.px_plan.specs.declared.plan.Compiled.{Compiled}
 use Rattle.px_ends.specs.Calls.{Rests, Attempt, pair_begun}
 use Rattle.px_ends.specs.Fits.{IsPlain, IsPlainAsk, HeapFits, SessionServed}
 use Rattle.px_ends.specs.AsCode.{PairRunsAs}
@@ -43,6 +45,10 @@ pub record IsSplit (code : Code) (found : Found) (sides : List Side) (placed : P
   pub prints : (m node : ℕ) (a : Operand) → HasStatement code m node (w.Print a) → side_of sides node ≡ App
   pub sends : HasSends code sides placed
   pub cut : IsCut code placed blocks
+
+-- what is compiled is split so
+abbrev pub CompiledIsSplit : Type 0
+CompiledIsSplit = (code : Code) (found : Found) (sides : List Side) (c : Compiled) → ArePoints code found.sets → AreTouched code found → IsCompiled code sides c → IsSplit code found sides c.placed c.blocks
 
 -- a call of an entry of the program, with arguments that hold no references
 pub record IsCallOf (program : Program) (schema : Schema) (number : ℕ) (args : List Value) : Type 0 where

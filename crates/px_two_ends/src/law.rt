@@ -1,10 +1,15 @@
 //! What is proved of accepted programs at two ends.
 ghost use Rattle.px_two_ends.specs.Own.{NodesAreOwn};
-ghost use Rattle.px_two_ends.specs.Laws.{AcceptedIsPlacedWell, CallsRunAsPrograms, SessionsOfPrograms};
+ghost use Rattle.px_two_ends.specs.Laws.{CompiledIsSplit, AcceptedIsPlacedWell, CallsRunAsPrograms, SessionsOfPrograms};
 
 /// Statements whose nodes are numbered in order have nodes of their own.
 pub fn nodes_are_own()
     ensures { NodesAreOwn }
+{}
+
+/// What is compiled has its sends, is cut into blocks, and prints at APP alone.
+pub fn compiled_is_split()
+    ensures { CompiledIsSplit }
 {}
 
 /// The code of an accepted program, with the sends that it needs, is placed well.

@@ -108,7 +108,10 @@ done
     ),
 ];
 
-const REFUSED: [Case; 9] = [
+const LATER: &str =
+    "class Main {\nlong n;\npublic void f(long x) {\nn = x;\nif (x > 0) {\nn = 0;\n}\n}\n}\n";
+
+const REFUSED: [Case; 13] = [
     (
         "a program before its job",
         "class Main {",
@@ -154,16 +157,44 @@ const REFUSED: [Case; 9] = [
     (
         "a second part",
         PROGRAM,
-        "part p upto 1000\npart q upto 1000",
+        "part p upto 900\npart q upto 1000",
         6,
         "job 2 Later\n",
     ),
     (
-        "a line that isn't built",
+        "a statement that two ends don't take, before the job",
+        LATER,
+        "nothing",
+        5,
+        "program 5 Later\n",
+    ),
+    (
+        "a second session",
+        PROGRAM,
+        "sessions 2\ncall 1 add 4",
+        6,
+        "job 1 Later\n",
+    ),
+    (
+        "an order",
+        PROGRAM,
+        "call 1 add 4\norder 1",
+        6,
+        "job 2 Later\n",
+    ),
+    (
+        "another fault before a line that two ends don't take",
+        PROGRAM,
+        "load 1 5\ncall 1 sub 4",
+        6,
+        "job 2 J10\n",
+    ),
+    (
+        "a row of an unknown table",
         PROGRAM,
         "row t 1",
         6,
-        "job 1 Later\n",
+        "job 1 J6\n",
     ),
     (
         "an unknown entry",

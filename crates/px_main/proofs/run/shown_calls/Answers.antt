@@ -1,4 +1,4 @@
-use Rattle.std.proofs.Common.{◌≡◌, ◌+◌, ◌++◌, ◌∷◌, [], List, ℕ, length, sym, ap, ◌∙◌, subst, refl, arith, length-append}
+use Rattle.std.proofs.Common.{◌+◌, List, ℕ, length, sym, ap, ◌∙◌, subst, refl, arith, length-append}
 use Rattle.px_code.specs.declared.reply.Shown.{Shown}
 use Rattle.px_main.specs.Run.{session_in, no_counts}
 use Rattle.px_main.proofs.Numbers.{AreFew, none_are_few, shown_next, counts_next, few_next, one_made}

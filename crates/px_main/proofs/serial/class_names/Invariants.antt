@@ -1,5 +1,5 @@
 use Rattle.std.proofs.Common.{◌≡◌, ◌++◌, map, drop}
-use Rattle.px_lex.specs.declared.tree.Class.{Class}
+use Rattle.px_tree.specs.declared.Class.{Class}
 use Rattle.px_main.proofs.serial.class_names.Given as goal
 
 abbrev pub invariant-loop-class : goal.invariant-loop-class

@@ -1,0 +1,5 @@
+use Rattle.px_core.proofs.Nexts.{begins_add_next as law}
+use Rattle.px_core.proofs.law.begins_add_next.Goals as goal
+
+pub returns : goal.returns
+returns c = law

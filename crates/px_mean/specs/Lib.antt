@@ -1,5 +1,0 @@
-pub mod Effects
-pub mod Facts
-pub mod Exec
-pub mod Serial
-pub mod Program

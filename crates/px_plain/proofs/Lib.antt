@@ -1,6 +1,0 @@
-pub mod Digits
-pub mod Undoes
-pub mod Steps
-pub mod Runs
-pub mod Methods
-pub mod Serials

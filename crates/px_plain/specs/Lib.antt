@@ -1,4 +1,0 @@
-pub mod Undo
-pub mod View
-pub mod Serial
-pub mod Stops

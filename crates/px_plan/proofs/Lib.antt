@@ -1,0 +1,2 @@
+mod PrintWalk
+pub mod Pinned

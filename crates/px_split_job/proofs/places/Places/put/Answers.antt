@@ -1,5 +1,0 @@
-use Rattle.std.proofs.lemmas.Map.Text.{hash_map_updates_str}
-use Rattle.px_split_job.proofs.places.Places.put.Goals as goal
-
-pub returns : goal.returns
-returns c = λ other. hash_map_updates_str c.args.name.now c.args.self.now.map c.insert.new.self _ c.in_ok-insert.ensures.updates other
