@@ -4,8 +4,10 @@
 mod copies;
 mod members;
 mod names;
+mod part;
 mod trees;
 mod whole;
 mod words;
 
+pub use part::push_part;
 pub use whole::pyxil_of;
