@@ -3,13 +3,13 @@ use Rattle.std.proofs.Common.{ℕ, zero, suc, List, [], sym, subst, arith}
 use Rattle.px_value.specs.declared.schema.Schema.{Schema}
 use Rattle.px_tree.specs.declared.Program.{Program}
 use Rattle.px_tree.specs.declared.Class.{Class}
-use Rattle.px_grammar.specs.Programs.{IsProgram}
+use Rattle.px_parse.specs.Programs.{IsProgram}
 use Rattle.px_lex.specs.Cutting.{tokens_of}
-use Rattle.px_rules.specs.Members.{classes_of}
-use Rattle.px_rules.specs.Programs.{declared_notes, main_notes, end_token, bodies}
-use Rattle.px_rules.specs.Bodies.{home_of, all_found}
-use Rattle.px_rules.specs.Checked.{facts_of, checked_of}
-use Rattle.px_semantics.specs.Program.{methods_of}
+use Rattle.px_types.specs.Members.{classes_of}
+use Rattle.px_types.specs.Programs.{declared_notes, main_notes, end_token, bodies}
+use Rattle.px_types.specs.Bodies.{home_of, all_found}
+use Rattle.px_types.specs.Checked.{facts_of, checked_of}
+use Rattle.px_mean.specs.Program.{methods_of}
 use Rattle.px_lowering.specs.Programs.{lowered}
 use Rattle.px_soundness.proofs.Clean.{Clean, clean_right}
 use Rattle.px_soundness.proofs.Accepted.{accepted_typed}

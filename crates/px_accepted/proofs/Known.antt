@@ -6,14 +6,14 @@ use Rattle.px_tree.specs.declared.Program.{Program}
 use Rattle.px_tree.specs.declared.Class.{Class}
 use Rattle.px_tree.specs.declared.Member.{Member}
 use Rattle.px_tree.specs.declared.Member.TheVariants as member
-use Rattle.px_rules.specs.declared.table.Table.{Table}
-use Rattle.px_rules.specs.declared.classes.FieldType.{FieldType}
-use Rattle.px_rules.specs.declared.classes.Members.{Members}
-use Rattle.px_rules.specs.Breaches.{breach_if}
-use Rattle.px_rules.specs.Names.{empty, has_name}
-use Rattle.px_rules.specs.Members.{no_members, field_type, with_member, class_members, numbers_of}
-use Rattle.px_rules.specs.Programs.{field_names, method_names, members_notes, all_members, class_names, declared_notes, notes_of, first_breach_of}
-use Rattle.px_rules.specs.Checked.{type_in, class_known, facts_of, checked_of}
+use Rattle.px_types.specs.declared.table.Table.{Table}
+use Rattle.px_types.specs.declared.classes.FieldType.{FieldType}
+use Rattle.px_types.specs.declared.classes.Members.{Members}
+use Rattle.px_types.specs.Breaches.{breach_if}
+use Rattle.px_types.specs.Names.{empty, has_name}
+use Rattle.px_types.specs.Members.{no_members, field_type, with_member, class_members, numbers_of}
+use Rattle.px_types.specs.Programs.{field_names, method_names, members_notes, all_members, class_names, declared_notes, notes_of, first_breach_of}
+use Rattle.px_types.specs.Checked.{type_in, class_known, facts_of, checked_of}
 use Rattle.px_soundness.proofs.Clean.{Clean, clean_left, clean_right, not_broken, all_clean}
 use Rattle.px_soundness.proofs.Scopes.{length_push, declare_fresh}
 use Rattle.px_preservation.specs.Laws.{fields_in, AreKnown}

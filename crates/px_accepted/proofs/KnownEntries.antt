@@ -13,14 +13,14 @@ use Rattle.px_tree.specs.declared.Class.{Class}
 use Rattle.px_facts.specs.declared.checked.MethodFact.{MethodFact}
 use Rattle.px_facts.specs.declared.checked.Entry.{Entry}
 use Rattle.px_facts.specs.declared.checked.Main.{Main}
-use Rattle.px_rules.specs.declared.table.Table.{Table}
-use Rattle.px_rules.specs.declared.classes.Classes.{Classes}
-use Rattle.px_rules.specs.declared.home.Home.{Home}
-use Rattle.px_rules.specs.Members.{class_members}
-use Rattle.px_rules.specs.Programs.{entries, main_notes}
-use Rattle.px_rules.specs.Bodies.{firsts_from, method_known, all_found}
-use Rattle.px_rules.specs.Entries.{entry_of, entry_if, entries_from, first_method, main_from}
-use Rattle.px_semantics.specs.Program.{methods_in, methods_of}
+use Rattle.px_types.specs.declared.table.Table.{Table}
+use Rattle.px_types.specs.declared.classes.Classes.{Classes}
+use Rattle.px_types.specs.declared.home.Home.{Home}
+use Rattle.px_types.specs.Members.{class_members}
+use Rattle.px_types.specs.Programs.{entries, main_notes}
+use Rattle.px_types.specs.Bodies.{firsts_from, method_known, all_found}
+use Rattle.px_types.specs.Entries.{entry_of, entry_if, entries_from, first_method, main_from}
+use Rattle.px_mean.specs.Program.{methods_in, methods_of}
 use Rattle.px_lowering.specs.Programs.{is_public}
 use Rattle.px_soundness.proofs.Clean.{Clean, some_is}
 use Rattle.px_soundness.proofs.Standing.{first_in_drop, rest_in_drop, add_one}

@@ -14,16 +14,16 @@ use Rattle.px_facts.specs.declared.checked.ClassFact.{ClassFact}
 use Rattle.px_facts.specs.declared.checked.MethodFact.{MethodFact}
 use Rattle.px_facts.specs.declared.checked.Entry.{Entry}
 use Rattle.px_facts.specs.declared.checked.Facts.{Facts}
-use Rattle.px_rules.specs.declared.node.Node.{Node}
-use Rattle.px_rules.specs.declared.table.Table.{Table}
-use Rattle.px_rules.specs.declared.classes.Classes.{Classes}
-use Rattle.px_rules.specs.Names.{empty, declare, has_name, place_of, value_at, find}
-use Rattle.px_rules.specs.Members.{numbered, class_members, classes_of}
-use Rattle.px_rules.specs.Programs.{declared_notes, class_names, all_members, main_notes, bodies, end_token, notes_of, first_breach_of}
-use Rattle.px_rules.specs.Bodies.{firsts_from, home_of, all_found}
-use Rattle.px_rules.specs.Checked.{class_known, facts_in, facts_of, checked_of}
-use Rattle.px_semantics.specs.Facts.{type_at, named_at, by_number, fields_of}
-use Rattle.px_semantics.specs.Program.{methods_of}
+use Rattle.px_types.specs.declared.node.Node.{Node}
+use Rattle.px_types.specs.declared.table.Table.{Table}
+use Rattle.px_types.specs.declared.classes.Classes.{Classes}
+use Rattle.px_types.specs.Names.{empty, declare, has_name, place_of, value_at, find}
+use Rattle.px_types.specs.Members.{numbered, class_members, classes_of}
+use Rattle.px_types.specs.Programs.{declared_notes, class_names, all_members, main_notes, bodies, end_token, notes_of, first_breach_of}
+use Rattle.px_types.specs.Bodies.{firsts_from, home_of, all_found}
+use Rattle.px_types.specs.Checked.{class_known, facts_in, facts_of, checked_of}
+use Rattle.px_mean.specs.Facts.{type_at, named_at, by_number, fields_of}
+use Rattle.px_mean.specs.Program.{methods_of}
 use Rattle.px_lowering.specs.declared.allocations.Allocation.{Allocation}
 use Rattle.px_lowering.specs.Allocations.{kind_of}
 use Rattle.px_lowering.specs.Programs.{allocations, is_public, is_entry}

@@ -11,21 +11,21 @@ use Rattle.px_tree.specs.declared.Class.{Class}
 use Rattle.px_facts.specs.declared.types.Ty.{Ty}
 use Rattle.px_facts.specs.declared.checked.ClassFact.{ClassFact}
 use Rattle.px_facts.specs.Types.{is_void, array_of}
-use Rattle.px_rules.specs.declared.table.Table.{Table}
-use Rattle.px_rules.specs.declared.classes.FieldType.{FieldType}
-use Rattle.px_rules.specs.declared.classes.Members.{Members}
-use Rattle.px_rules.specs.declared.locals.Locals.{Locals}
-use Rattle.px_rules.specs.declared.scope.Scope.{Scope}
-use Rattle.px_rules.specs.Breaches.{breach_if}
-use Rattle.px_rules.specs.Names.{find, has_name, reserves}
-use Rattle.px_rules.specs.Members.{class_type, base_type, type_of, result_type, param_type, names_no_class, no_members, field_type, with_member, class_members}
-use Rattle.px_rules.specs.Scopes.{with_local, local_notes}
-use Rattle.px_rules.specs.Slots.{with_slot}
-use Rattle.px_rules.specs.Methods.{result_notes, param_notes}
-use Rattle.px_rules.specs.Bodies.{with_params}
-use Rattle.px_rules.specs.Programs.{field_names, method_names, members_notes, all_members, max_fields}
-use Rattle.px_rules.specs.Checked.{type_in, class_known}
-use Rattle.px_semantics.specs.Facts.{fields_in}
+use Rattle.px_types.specs.declared.table.Table.{Table}
+use Rattle.px_types.specs.declared.classes.FieldType.{FieldType}
+use Rattle.px_types.specs.declared.classes.Members.{Members}
+use Rattle.px_types.specs.declared.locals.Locals.{Locals}
+use Rattle.px_types.specs.declared.scope.Scope.{Scope}
+use Rattle.px_types.specs.Breaches.{breach_if}
+use Rattle.px_types.specs.Names.{find, has_name, reserves}
+use Rattle.px_types.specs.Members.{class_type, base_type, type_of, result_type, param_type, names_no_class, no_members, field_type, with_member, class_members}
+use Rattle.px_types.specs.Scopes.{with_local, local_notes}
+use Rattle.px_types.specs.Slots.{with_slot}
+use Rattle.px_types.specs.Methods.{result_notes, param_notes}
+use Rattle.px_types.specs.Bodies.{with_params}
+use Rattle.px_types.specs.Programs.{field_names, method_names, members_notes, all_members, max_fields}
+use Rattle.px_types.specs.Checked.{type_in, class_known}
+use Rattle.px_mean.specs.Facts.{fields_in}
 use Rattle.px_typed_code.specs.Values.{is_value, is_result}
 use Rattle.px_soundness.specs.Numbered.{IsTypeName, AreParams, IsResult, AreMembers, AreClasses}
 use Rattle.px_soundness.proofs.Clean.{Clean, clean_left, clean_right, not_broken, some_is}

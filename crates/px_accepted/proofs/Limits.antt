@@ -11,15 +11,15 @@ use Rattle.px_facts.specs.declared.types.Ty.{Ty}
 use Rattle.px_facts.specs.declared.checked.Checked.{Checked}
 use Rattle.px_facts.specs.declared.checked.ClassFact.{ClassFact}
 use Rattle.px_facts.specs.declared.checked.MethodFact.{MethodFact}
-use Rattle.px_rules.specs.declared.breach.Breach.{Breach}
-use Rattle.px_rules.specs.declared.table.Table.{Table}
-use Rattle.px_rules.specs.declared.classes.Members.{Members}
-use Rattle.px_rules.specs.Breaches.{Note, Fault, New, OneMethod, breach_if, at, least, is_before, breaches, max_news, max_methods}
-use Rattle.px_rules.specs.Names.{empty, has_name, declare, repeated, reserves}
-use Rattle.px_rules.specs.Members.{no_members, with_member, numbers_of, classes_of}
-use Rattle.px_rules.specs.Programs.{max_classes, max_fields, class_names, field_names, method_names, members_notes, all_members, declared_notes, notes_of, first_breach_of, main_notes, end_token, bodies}
-use Rattle.px_rules.specs.Checked.{checked_of}
-use Rattle.px_semantics.specs.Program.{methods_in, methods_of}
+use Rattle.px_types.specs.declared.breach.Breach.{Breach}
+use Rattle.px_types.specs.declared.table.Table.{Table}
+use Rattle.px_types.specs.declared.classes.Members.{Members}
+use Rattle.px_types.specs.Breaches.{Note, Fault, New, OneMethod, breach_if, at, least, is_before, breaches, max_news, max_methods}
+use Rattle.px_types.specs.Names.{empty, has_name, declare, repeated, reserves}
+use Rattle.px_types.specs.Members.{no_members, with_member, numbers_of, classes_of}
+use Rattle.px_types.specs.Programs.{max_classes, max_fields, class_names, field_names, method_names, members_notes, all_members, declared_notes, notes_of, first_breach_of, main_notes, end_token, bodies}
+use Rattle.px_types.specs.Checked.{checked_of}
+use Rattle.px_mean.specs.Program.{methods_in, methods_of}
 use Rattle.px_preservation.specs.Laws.{fields_in}
 use Rattle.px_normal.specs.declared.class.Class.{Class as CodeClass}
 use Rattle.px_normal.specs.declared.node.Node.{Node}
@@ -27,7 +27,7 @@ use Rattle.px_normal.specs.First.{fields_in as code_fields_in}
 use Rattle.px_lowering.specs.Programs.{field_node, lowered_body, lowered_methods, lowered_fields, lowered_classes, lowered}
 use Rattle.px_soundness.proofs.Clean.{Clean, clean_left, clean_right, kept}
 use Rattle.px_accepted.specs.Limits.{AcceptedKeepsLimits}
-use Rattle.px_rules.specs.Methods.{max_tokens}
+use Rattle.px_types.specs.Methods.{max_tokens}
 use Rattle.px_typed_code.specs.Sizes.{all_sizes, all_fields, fourfold}
 use Rattle.px_typed_code.proofs.FewNodeMethods.{nodes_are_few}
 use Rattle.px_soundness.proofs.Accepted.{accepted_typed}

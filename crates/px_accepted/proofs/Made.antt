@@ -10,10 +10,10 @@ use Rattle.px_facts.specs.declared.checked.Named.TheVariants as named
 use Rattle.px_facts.specs.declared.checked.Fact.{Fact}
 use Rattle.px_facts.specs.declared.checked.Facts.{Facts}
 use Rattle.px_facts.specs.declared.operation.Operation.{Operation}
-use Rattle.px_rules.specs.declared.node.Node.{Node}
-use Rattle.px_rules.specs.Known.{fact_only}
-use Rattle.px_rules.specs.Sites.{with_numbers, call_after, site_after, sited, operations_in}
-use Rattle.px_semantics.specs.Facts.{type_in, named_in, element_number}
+use Rattle.px_types.specs.declared.node.Node.{Node}
+use Rattle.px_types.specs.Known.{fact_only}
+use Rattle.px_types.specs.Sites.{with_numbers, call_after, site_after, sited, operations_in}
+use Rattle.px_mean.specs.Facts.{type_in, named_in, element_number}
 use Rattle.px_lowering.specs.Allocations.{kind_of}
 use Rattle.px_typed_code.specs.Laws.{site_of, IsKnownClass, IsKnownElement, IsKnownKind}
 use Rattle.px_soundness.proofs.Clean.{some_is}

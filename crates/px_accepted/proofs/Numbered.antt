@@ -6,7 +6,7 @@ use Rattle.px_tree.specs.declared.Stmt.{Stmt}
 use Rattle.px_tree.specs.declared.Method.{Method}
 use Rattle.px_tree.specs.declared.Member.{Member}
 use Rattle.px_tree.specs.declared.Class.{Class}
-use Rattle.px_semantics.specs.Program.{methods_in, methods_of}
+use Rattle.px_mean.specs.Program.{methods_in, methods_of}
 use Rattle.px_soundness.specs.Numbered.{IsExpr, AreExprs, IsStmt, AreStmts, AreMembers, AreClasses}
 use Rattle.px_counted.specs.Numbers.{all_of, one_if, given, given_statement, given_methods}
 use Rattle.px_counted.proofs.GivenNumbers.{given_number, given_text, given_true, given_false, given_null, given_this, given_name, given_group, given_field, given_index, given_own_call, given_call, given_new_object, given_new_array, given_prefix, given_binary, given_block, given_empty, given_local, given_assign, given_compound, given_up, given_down, given_call_statement, given_if_only, given_if_else, given_while, given_for, given_leave, given_return, given_print}

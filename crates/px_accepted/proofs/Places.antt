@@ -13,23 +13,23 @@ use Rattle.px_tree.specs.declared.Class.{Class}
 use Rattle.px_facts.specs.declared.checked.Named.{Named}
 use Rattle.px_facts.specs.declared.checked.Fact.{Fact}
 use Rattle.px_facts.specs.declared.checked.Facts.{Facts}
-use Rattle.px_rules.specs.declared.node.Node.{Node}
-use Rattle.px_rules.specs.declared.home.Home.{Home}
-use Rattle.px_rules.specs.declared.database.Verb.{Verb}
-use Rattle.px_rules.specs.declared.scope.Scope.{Scope}
-use Rattle.px_rules.specs.declared.scope.Slot.{Slot}
-use Rattle.px_rules.specs.Members.{type_of}
-use Rattle.px_rules.specs.Slots.{first_scope, slot_of}
-use Rattle.px_rules.specs.Facts.{no_fact, local_fact, changed_fact, database_fact}
-use Rattle.px_rules.specs.Database.{written, asked}
-use Rattle.px_rules.specs.Known.{Known, known, fact_only, all_nodes, argument_nodes}
-use Rattle.px_rules.specs.Told.{Told, told, in_order}
-use Rattle.px_rules.specs.Sites.{with_numbers, call_after, site_after, sited}
-use Rattle.px_rules.specs.Bodies.{with_params, told_body, class_found, all_found, next_class}
-use Rattle.px_rules.proofs.KnownForms.{known_by_form, known_number, known_text, known_true, known_false, known_null, known_this, known_name, known_group, known_field, known_index, known_own_call, known_call, known_database_call, known_new, known_new_array, known_prefix, known_binary}
-use Rattle.px_rules.proofs.ToldForms.{told_block, told_empty, told_local, told_assign, told_compound, told_up, told_down, told_call, told_if, told_while, told_for, told_return, told_print}
-use Rattle.px_semantics.specs.Facts.{type_in, type_at, named_in, named_at}
-use Rattle.px_semantics.specs.Program.{methods_in, methods_of}
+use Rattle.px_types.specs.declared.node.Node.{Node}
+use Rattle.px_types.specs.declared.home.Home.{Home}
+use Rattle.px_types.specs.declared.database.Verb.{Verb}
+use Rattle.px_types.specs.declared.scope.Scope.{Scope}
+use Rattle.px_types.specs.declared.scope.Slot.{Slot}
+use Rattle.px_types.specs.Members.{type_of}
+use Rattle.px_types.specs.Slots.{first_scope, slot_of}
+use Rattle.px_types.specs.Facts.{no_fact, local_fact, changed_fact, database_fact}
+use Rattle.px_types.specs.Database.{written, asked}
+use Rattle.px_types.specs.Known.{Known, known, fact_only, all_nodes, argument_nodes}
+use Rattle.px_types.specs.Told.{Told, told, in_order}
+use Rattle.px_types.specs.Sites.{with_numbers, call_after, site_after, sited}
+use Rattle.px_types.specs.Bodies.{with_params, told_body, class_found, all_found, next_class}
+use Rattle.px_types.proofs.KnownForms.{known_by_form, known_number, known_text, known_true, known_false, known_null, known_this, known_name, known_group, known_field, known_index, known_own_call, known_call, known_database_call, known_new, known_new_array, known_prefix, known_binary}
+use Rattle.px_types.proofs.ToldForms.{told_block, told_empty, told_local, told_assign, told_compound, told_up, told_down, told_call, told_if, told_while, told_for, told_return, told_print}
+use Rattle.px_mean.specs.Facts.{type_in, type_at, named_in, named_at}
+use Rattle.px_mean.specs.Program.{methods_in, methods_of}
 use Rattle.px_lowering.specs.declared.allocations.Allocation.{Allocation}
 use Rattle.px_lowering.specs.Allocations.{kind_of, one_of, all_of, inner, one_at, here, in_expression, in_statement}
 use Rattle.px_lowering.specs.Programs.{allocations}

@@ -2,11 +2,11 @@
 use Rattle.std.proofs.Common.{◌≡◌, ◌≤◌, ◌<◌, ℕ, zero, suc, ◌+◌, ◌-◌, ◌*◌, nat_lt, true, List, [], ◌∷◌, ◌++◌, length, length-append, map, Option, Some, slice_get, refl, subst, arith}
 use Rattle.std.proofs.lemmas.Bool.Decides.{nat_tests}
 use Rattle.px_lex.specs.declared.token.Token.{Token}
-use Rattle.px_grammar.specs.declared.lexeme.Lexeme.{Lexeme}
-use Rattle.px_grammar.specs.declared.whole.Declared.{Declared}
-use Rattle.px_grammar.specs.Lexemes.{lexemes_from}
-use Rattle.px_grammar.specs.Trees.{name_of, block_of, first_token}
-use Rattle.px_grammar.specs.Grammar.{SpellsType, SpellsAccess, SpellsResult, SpellsParam, SpellsMoreParams, SpellsParams, SpellsMember, SpellsMembers, SpellsClass, SpellsClasses, SpellsProgram}
+use Rattle.px_parse.specs.declared.lexeme.Lexeme.{Lexeme}
+use Rattle.px_parse.specs.declared.whole.Declared.{Declared}
+use Rattle.px_parse.specs.Lexemes.{lexemes_from}
+use Rattle.px_parse.specs.Trees.{name_of, block_of, first_token}
+use Rattle.px_parse.specs.Grammar.{SpellsType, SpellsAccess, SpellsResult, SpellsParam, SpellsMoreParams, SpellsParams, SpellsMember, SpellsMembers, SpellsClass, SpellsClasses, SpellsProgram}
 use Rattle.px_tree.specs.declared.Access.{Access}
 use Rattle.px_tree.specs.declared.TypeName.{TypeName}
 use Rattle.px_tree.specs.declared.Param.{Param}
@@ -15,17 +15,17 @@ use Rattle.px_tree.specs.declared.Member.{Member}
 use Rattle.px_tree.specs.declared.Class.{Class}
 use Rattle.px_tree.specs.Numbering.{in_order, numbered_statement, numbered_member, numbered_class}
 use Rattle.px_facts.specs.declared.checked.MethodFact.{MethodFact}
-use Rattle.px_rules.specs.declared.table.Table.{Table}
-use Rattle.px_rules.specs.declared.classes.Classes.{Classes}
-use Rattle.px_rules.specs.declared.home.Home.{Home}
-use Rattle.px_rules.specs.declared.scope.Scope.{Scope}
-use Rattle.px_rules.specs.Members.{param_type, result_type}
-use Rattle.px_rules.specs.Scopes.{no_locals}
-use Rattle.px_rules.specs.Slots.{first_scope, with_slot}
-use Rattle.px_rules.specs.Methods.{max_tokens, result_notes, param_notes, judged_body, ends, method_notes}
-use Rattle.px_rules.specs.Programs.{class_bodies, bodies}
-use Rattle.px_rules.specs.Bodies.{with_params, class_found, all_found}
-use Rattle.px_semantics.specs.Program.{methods_in, methods_of}
+use Rattle.px_types.specs.declared.table.Table.{Table}
+use Rattle.px_types.specs.declared.classes.Classes.{Classes}
+use Rattle.px_types.specs.declared.home.Home.{Home}
+use Rattle.px_types.specs.declared.scope.Scope.{Scope}
+use Rattle.px_types.specs.Members.{param_type, result_type}
+use Rattle.px_types.specs.Scopes.{no_locals}
+use Rattle.px_types.specs.Slots.{first_scope, with_slot}
+use Rattle.px_types.specs.Methods.{max_tokens, result_notes, param_notes, judged_body, ends, method_notes}
+use Rattle.px_types.specs.Programs.{class_bodies, bodies}
+use Rattle.px_types.specs.Bodies.{with_params, class_found, all_found}
+use Rattle.px_mean.specs.Program.{methods_in, methods_of}
 use Rattle.px_soundness.proofs.Clean.{Clean, clean_left, clean_right, kept, some_is}
 use Rattle.px_typed_code.specs.Sizes.{parts, size, all_sizes}
 use Rattle.px_accepted.proofs.SpelledStatements.{many, block_small, items}

@@ -13,27 +13,27 @@ use Rattle.px_facts.specs.declared.checked.Fact.{Fact}
 use Rattle.px_facts.specs.declared.checked.Facts.{Facts}
 use Rattle.px_facts.specs.declared.operation.Operation.{Operation}
 use Rattle.px_facts.specs.Types.{array_of, indexed}
-use Rattle.px_rules.specs.declared.classes.Classes.{Classes}
-use Rattle.px_rules.specs.declared.context.Context.{Context}
-use Rattle.px_rules.specs.declared.home.Home.{Home}
-use Rattle.px_rules.specs.declared.locals.Locals.{Locals}
-use Rattle.px_rules.specs.declared.scope.Scope.{Scope}
-use Rattle.px_rules.specs.declared.scope.Slot.{Slot}
-use Rattle.px_rules.specs.declared.database.Verb.{Verb}
-use Rattle.px_rules.specs.declared.database.Verb.TheVariants as verb
-use Rattle.px_rules.specs.Breaches.{breach_if}
-use Rattle.px_rules.specs.Literals.{literal_type}
-use Rattle.px_rules.specs.Operators.{is_minus, prefix_type, group_of, group_type}
-use Rattle.px_rules.specs.Names.{find}
-use Rattle.px_rules.specs.Members.{base_type, class_type, names_no_class, method_of}
-use Rattle.px_rules.specs.Scopes.{variable_type}
-use Rattle.px_rules.specs.Slots.{slot_of}
-use Rattle.px_rules.specs.Facts.{typed_only, variable_fact, field_fact, method_fact, new_of, new_fact, new_array_fact, database_fact, verb_fact, field_at, field_place, method_at, method_place, numbered_method, rows_method, text_method, local_or}
-use Rattle.px_rules.specs.Database.{Written, Bare, Literal, Other, written, asked, literal_in, asked_operation, text_notes, first_written as text_written}
-use Rattle.px_rules.specs.Expressions.{Typed, typed, of_type, number, misfit, variable, bracketed, field, index, argument_fits, arguments, wanted, call, types_of, database_notes, database_call, new_object, new_array, prefixed, binary, method_notes}
-use Rattle.px_rules.specs.Known.{Known, known, fact_only, leaf, all_nodes, argument_nodes, name_known, group_known, field_known, index_known, own_call, call_known, operation_in, database_node, array_known, operator_known}
-use Rattle.px_rules.proofs.Forms.{typed_by_form, typed_number, typed_true, typed_false, typed_null, typed_this, typed_name, typed_group, typed_field, typed_index, typed_own_call, typed_call, typed_database_call, typed_new, typed_new_array, typed_prefix, typed_binary, text_is_read, no_text}
-use Rattle.px_rules.proofs.KnownForms.{known_by_form, known_number, known_text, known_true, known_false, known_null, known_this, known_name, known_group, known_field, known_index, known_own_call, known_call, database_call as database_known, known_database_call, known_new, known_new_array, known_prefix, known_binary}
+use Rattle.px_types.specs.declared.classes.Classes.{Classes}
+use Rattle.px_types.specs.declared.context.Context.{Context}
+use Rattle.px_types.specs.declared.home.Home.{Home}
+use Rattle.px_types.specs.declared.locals.Locals.{Locals}
+use Rattle.px_types.specs.declared.scope.Scope.{Scope}
+use Rattle.px_types.specs.declared.scope.Slot.{Slot}
+use Rattle.px_types.specs.declared.database.Verb.{Verb}
+use Rattle.px_types.specs.declared.database.Verb.TheVariants as verb
+use Rattle.px_types.specs.Breaches.{breach_if}
+use Rattle.px_types.specs.Literals.{literal_type}
+use Rattle.px_types.specs.Operators.{is_minus, prefix_type, group_of, group_type}
+use Rattle.px_types.specs.Names.{find}
+use Rattle.px_types.specs.Members.{base_type, class_type, names_no_class, method_of}
+use Rattle.px_types.specs.Scopes.{variable_type}
+use Rattle.px_types.specs.Slots.{slot_of}
+use Rattle.px_types.specs.Facts.{typed_only, variable_fact, field_fact, method_fact, new_of, new_fact, new_array_fact, database_fact, verb_fact, field_at, field_place, method_at, method_place, numbered_method, rows_method, text_method, local_or}
+use Rattle.px_types.specs.Database.{Written, Bare, Literal, Other, written, asked, literal_in, asked_operation, text_notes, first_written as text_written}
+use Rattle.px_types.specs.Expressions.{Typed, typed, of_type, number, misfit, variable, bracketed, field, index, argument_fits, arguments, wanted, call, types_of, database_notes, database_call, new_object, new_array, prefixed, binary, method_notes}
+use Rattle.px_types.specs.Known.{Known, known, fact_only, leaf, all_nodes, argument_nodes, name_known, group_known, field_known, index_known, own_call, call_known, operation_in, database_node, array_known, operator_known}
+use Rattle.px_types.proofs.Forms.{typed_by_form, typed_number, typed_true, typed_false, typed_null, typed_this, typed_name, typed_group, typed_field, typed_index, typed_own_call, typed_call, typed_database_call, typed_new, typed_new_array, typed_prefix, typed_binary, text_is_read, no_text}
+use Rattle.px_types.proofs.KnownForms.{known_by_form, known_number, known_text, known_true, known_false, known_null, known_this, known_name, known_group, known_field, known_index, known_own_call, known_call, database_call as database_known, known_database_call, known_new, known_new_array, known_prefix, known_binary}
 use Rattle.px_typed_code.specs.Laws.{IsKnownClass, IsKnownElement}
 use Rattle.px_soundness.specs.Numbered.{IsExpr, AreExprs, IsElement}
 use Rattle.px_soundness.proofs.Clean.{Clean, clean_left, clean_right}

@@ -15,30 +15,30 @@ use Rattle.px_facts.specs.declared.types.Ty.{Ty}
 use Rattle.px_facts.specs.declared.checked.Fact.{Fact}
 use Rattle.px_facts.specs.declared.checked.Facts.{Facts}
 use Rattle.px_facts.specs.declared.checked.MethodFact.{MethodFact}
-use Rattle.px_rules.specs.declared.node.Node.{Node}
-use Rattle.px_rules.specs.declared.classes.Classes.{Classes}
-use Rattle.px_rules.specs.declared.context.Context.{Context}
-use Rattle.px_rules.specs.declared.home.Home.{Home}
-use Rattle.px_rules.specs.declared.locals.Locals.{Locals}
-use Rattle.px_rules.specs.declared.scope.Scope.{Scope}
-use Rattle.px_rules.specs.Names.{find}
-use Rattle.px_rules.specs.Members.{type_of, names_no_class, result_type, class_members}
-use Rattle.px_rules.specs.Scopes.{no_locals, with_local, local_notes, local_type}
-use Rattle.px_rules.specs.Slots.{first_scope, slot_of}
-use Rattle.px_rules.specs.Facts.{no_fact, local_fact, changed_fact}
-use Rattle.px_rules.specs.Expressions.{Typed, typed, field}
-use Rattle.px_rules.specs.Statements as judging
-use Rattle.px_rules.specs.Statements.{Judged, judged, judged_form, behind, unreached, value_notes, local, place_of_form, assigned_place, assign, compound, step, no_local, condition, print, return_notes, returned, branches, completing, for_loop, block}
-use Rattle.px_rules.specs.Methods.{result_notes, param_notes, params_of, judged_body, method_notes}
-use Rattle.px_rules.specs.Programs.{class_bodies, bodies}
-use Rattle.px_rules.specs.Known.{known, fact_only, all_nodes}
-use Rattle.px_rules.specs.Told as telling
-use Rattle.px_rules.specs.Told.{Told, told, in_order, block_told, local_told, assign_told, change_told, value_told, return_told, if_told, while_told, for_told}
-use Rattle.px_rules.specs.Bodies.{with_params, told_body, method_known, class_found, all_found}
-use Rattle.px_rules.specs.Checked.{class_known}
-use Rattle.px_rules.proofs.Forms.{typed_by_form, typed_field}
-use Rattle.px_rules.proofs.StatementForms.{judged_by_form, judged_block, judged_empty, judged_local, judged_assign, judged_compound, judged_up, judged_down, judged_call, judged_if, judged_while, judged_for, judged_return, judged_print}
-use Rattle.px_rules.proofs.ToldForms.{told_block, told_empty, told_local, told_assign, told_compound, told_up, told_down, told_call, told_if, told_while, told_for, told_return, told_print}
+use Rattle.px_types.specs.declared.node.Node.{Node}
+use Rattle.px_types.specs.declared.classes.Classes.{Classes}
+use Rattle.px_types.specs.declared.context.Context.{Context}
+use Rattle.px_types.specs.declared.home.Home.{Home}
+use Rattle.px_types.specs.declared.locals.Locals.{Locals}
+use Rattle.px_types.specs.declared.scope.Scope.{Scope}
+use Rattle.px_types.specs.Names.{find}
+use Rattle.px_types.specs.Members.{type_of, names_no_class, result_type, class_members}
+use Rattle.px_types.specs.Scopes.{no_locals, with_local, local_notes, local_type}
+use Rattle.px_types.specs.Slots.{first_scope, slot_of}
+use Rattle.px_types.specs.Facts.{no_fact, local_fact, changed_fact}
+use Rattle.px_types.specs.Expressions.{Typed, typed, field}
+use Rattle.px_types.specs.Statements as judging
+use Rattle.px_types.specs.Statements.{Judged, judged, judged_form, behind, unreached, value_notes, local, place_of_form, assigned_place, assign, compound, step, no_local, condition, print, return_notes, returned, branches, completing, for_loop, block}
+use Rattle.px_types.specs.Methods.{result_notes, param_notes, params_of, judged_body, method_notes}
+use Rattle.px_types.specs.Programs.{class_bodies, bodies}
+use Rattle.px_types.specs.Known.{known, fact_only, all_nodes}
+use Rattle.px_types.specs.Told as telling
+use Rattle.px_types.specs.Told.{Told, told, in_order, block_told, local_told, assign_told, change_told, value_told, return_told, if_told, while_told, for_told}
+use Rattle.px_types.specs.Bodies.{with_params, told_body, method_known, class_found, all_found}
+use Rattle.px_types.specs.Checked.{class_known}
+use Rattle.px_types.proofs.Forms.{typed_by_form, typed_field}
+use Rattle.px_types.proofs.StatementForms.{judged_by_form, judged_block, judged_empty, judged_local, judged_assign, judged_compound, judged_up, judged_down, judged_call, judged_if, judged_while, judged_for, judged_return, judged_print}
+use Rattle.px_types.proofs.ToldForms.{told_block, told_empty, told_local, told_assign, told_compound, told_up, told_down, told_call, told_if, told_while, told_for, told_return, told_print}
 use Rattle.px_typed_code.specs.Values.{is_result}
 use Rattle.px_typed_code.specs.Laws.{IsKnownClass}
 use Rattle.px_soundness.specs.Numbered.{IsExpr, IsStmt, AreStmts, AreMembers, AreClasses}

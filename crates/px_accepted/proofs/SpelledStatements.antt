@@ -1,8 +1,8 @@
 -- The parts of a statement and the slots of its locals are no more than the tokens of its text.
 use Rattle.std.proofs.Common.{◌≡◌, ◌≤◌, ℕ, ◌+◌, Bool, false, List, [], ◌∷◌, ◌++◌, length, length-append, map, Some, None, refl, sym, ap, ◌∙◌, arith}
-use Rattle.px_grammar.specs.declared.lexeme.Lexeme.{Lexeme}
-use Rattle.px_grammar.specs.Trees.{name_of}
-use Rattle.px_grammar.specs.Grammar.{Ending, SpellsSimple, SpellsLocal, SpellsFirst, SpellsStatement, SpellsItem, SpellsItems}
+use Rattle.px_parse.specs.declared.lexeme.Lexeme.{Lexeme}
+use Rattle.px_parse.specs.Trees.{name_of}
+use Rattle.px_parse.specs.Grammar.{Ending, SpellsSimple, SpellsLocal, SpellsFirst, SpellsStatement, SpellsItem, SpellsItems}
 use Rattle.px_tree.specs.declared.Sign.{Sign}
 use Rattle.px_tree.specs.declared.Name.{Name as NameData}
 use Rattle.px_tree.specs.declared.TypeName.{TypeName}
@@ -14,12 +14,12 @@ use Rattle.px_tree.specs.declared.StmtForm.TheOpen.{StmtForm-F as g}
 use Rattle.px_tree.specs.Numbering as numbering
 use Rattle.px_tree.specs.Numbering.{Numbering, ◌>>=◌, pure, numbered_expression, numbered_statement, numbered_statement_form}
 use Rattle.px_tree.proofs.Numbers.{numbered_statement_is, of_block, of_empty, of_local, of_assign, of_compound, of_up, of_down, of_call_statement, of_if, of_while, of_for, of_return, of_print}
-use Rattle.px_rules.specs.declared.home.Home.{Home}
-use Rattle.px_rules.specs.declared.scope.Scope.{Scope}
-use Rattle.px_rules.specs.Members.{type_of}
-use Rattle.px_rules.specs.Told as telling
-use Rattle.px_rules.specs.Told.{Told, told}
-use Rattle.px_rules.proofs.ToldForms.{told_block, told_empty, told_local, told_assign, told_compound, told_up, told_down, told_call, told_if, told_while, told_for, told_return, told_print}
+use Rattle.px_types.specs.declared.home.Home.{Home}
+use Rattle.px_types.specs.declared.scope.Scope.{Scope}
+use Rattle.px_types.specs.Members.{type_of}
+use Rattle.px_types.specs.Told as telling
+use Rattle.px_types.specs.Told.{Told, told}
+use Rattle.px_types.proofs.ToldForms.{told_block, told_empty, told_local, told_assign, told_compound, told_up, told_down, told_call, told_if, told_while, told_for, told_return, told_print}
 use Rattle.px_typed_code.specs.Sizes.{total, parts}
 use Rattle.px_typed_code.proofs.FewStatements.{parts_at}
 use Rattle.px_accepted.proofs.SpelledExpressions.{Sized, expression, postfix}

@@ -2,8 +2,8 @@
 use Rattle.std.proofs.Common.{◌≡◌, ℕ, None}
 use Rattle.px_value.specs.declared.schema.Schema.{Schema}
 use Rattle.px_tree.specs.declared.Program.{Program}
-use Rattle.px_rules.specs.Programs.{first_breach_of}
-use Rattle.px_rules.specs.Checked.{checked_of}
+use Rattle.px_types.specs.Programs.{first_breach_of}
+use Rattle.px_types.specs.Checked.{checked_of}
 use Rattle.px_typed_code.specs.Laws.{AreUsedWell}
 use Rattle.px_soundness.specs.Numbered.{AreClasses}
 use Rattle.px_soundness.proofs.Accepted.{accepted_used}

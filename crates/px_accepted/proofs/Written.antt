@@ -4,8 +4,8 @@ use Rattle.px_tree.specs.declared.Expr.{Expr}
 use Rattle.px_tree.specs.declared.ExprForm.{ExprForm, ExprForm-F, out-ExprForm, out-roll-ExprForm, roll-ExprForm}
 use Rattle.px_tree.specs.declared.ExprForm.TheVariants.{Str, rolls-Number, rolls-Str, rolls-True, rolls-False, rolls-Null, rolls-This, rolls-Name, rolls-Group, rolls-Field, rolls-Index, rolls-Call, rolls-NewObject, rolls-NewArray, rolls-Prefix, rolls-Binary}
 use Rattle.px_tree.specs.declared.ExprForm.TheOpen.{ExprForm-F as f}
-use Rattle.px_rules.specs.declared.database.Verb.{Verb}
-use Rattle.px_rules.specs.Database.{Written, Bare, Literal, Other, written_form, written, asked}
+use Rattle.px_types.specs.declared.database.Verb.{Verb}
+use Rattle.px_types.specs.Database.{Written, Bare, Literal, Other, written_form, written, asked}
 use Rattle.px_soundness.specs.Numbered.{IsExpr}
 
 -- a name and a literal have one number

@@ -6,10 +6,10 @@ use Rattle.px_value.specs.declared.schema.Schema.{Schema}
 use Rattle.px_tree.specs.declared.Program.{Program}
 use Rattle.px_facts.specs.declared.checked.Entry.{Entry}
 use Rattle.px_effects.specs.Run.{Ask}
-use Rattle.px_rules.specs.Checked.{facts_of, checked_of}
+use Rattle.px_types.specs.Checked.{facts_of, checked_of}
 use Rattle.px_soundness.specs.Laws.{IsAccepted}
-use Rattle.px_semantics.specs.Program.{source_from}
-use Rattle.px_semantics.specs.Entry.{exec}
+use Rattle.px_mean.specs.Program.{source_from}
+use Rattle.px_mean.specs.Entry.{exec}
 use Rattle.px_normal.specs.Run.{untraced}
 use Rattle.px_normal.specs.CodeRun.{code_run}
 use Rattle.px_normal.specs.Typed.{IsTyped}

@@ -2,10 +2,10 @@
 use Rattle.std.specs.Prelude.{◌≡◌, ℕ, ◌+◌, ◌≤◌, ◌<◌, ◌^◌, List, length, Some}
 use Rattle.px_value.specs.declared.schema.Schema.{Schema}
 use Rattle.px_tree.specs.declared.Program.{Program}
-use Rattle.px_rules.specs.Breaches.{max_methods}
-use Rattle.px_rules.specs.Programs.{max_classes, max_fields}
-use Rattle.px_rules.specs.Methods.{max_tokens}
-use Rattle.px_rules.specs.Checked.{checked_of}
+use Rattle.px_types.specs.Breaches.{max_methods}
+use Rattle.px_types.specs.Programs.{max_classes, max_fields}
+use Rattle.px_types.specs.Methods.{max_tokens}
+use Rattle.px_types.specs.Checked.{checked_of}
 use Rattle.px_soundness.specs.Laws.{IsAccepted}
 use Rattle.px_normal.specs.declared.method.Method.{Method}
 use Rattle.px_normal.specs.declared.code.Code.{Code}

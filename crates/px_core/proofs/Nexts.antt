@@ -9,7 +9,7 @@ use Rattle.px_history.specs.Legal.{Calls}
 use Rattle.px_history.specs.Locking.{core_locks}
 use Rattle.px_history.specs.Moves.{CanMove, begins_call, does as can_do, dies as can_die, ends as can_end}
 use Rattle.px_history.specs.Serial.{Meaning, prints_of}
-use Rattle.px_semantics.specs.Program.{source_from}
+use Rattle.px_mean.specs.Program.{source_from}
 use Rattle.px_faithful.specs.Jobs.{Heap}
 use Rattle.px_faithful.proofs.Whole.{someone_goes_on}
 use Rattle.px_engine.specs.declared.engine.Begun.TheVariants.{Began, Waits as Holds}

@@ -3,7 +3,7 @@ use Rattle.std.proofs.Common.{ℕ, zero, suc, ◌≤◌, All, List, [], ◌∷�
 use Rattle.std.specs.List.{AllByRecursion}
 use Rattle.std.proofs.lemmas.Bool.{and_parts, leb-true}
 use Rattle.px_facts.specs.declared.checked.Entry.{Entry}
-use Rattle.px_semantics.specs.Serial.{Call}
+use Rattle.px_mean.specs.Serial.{Call}
 use Rattle.px_job.specs.declared.job.Call.{Call as CallOfFile}
 use Rattle.px_job.specs.Fitting.{IsCallOf}
 use Rattle.px_core.specs.Cored.{asked_call}

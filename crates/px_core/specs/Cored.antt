@@ -4,8 +4,8 @@ use Rattle.px_value.specs.declared.statement.TableOp.{TableOp}
 use Rattle.px_code.specs.declared.reply.Done.{Done}
 use Rattle.px_facts.specs.declared.checked.Checked.{Checked}
 use Rattle.px_rows.specs.Tables.{Tables}
-use Rattle.px_semantics.specs.Program.{source_from}
-use Rattle.px_semantics.specs.Serial.{Call}
+use Rattle.px_mean.specs.Program.{source_from}
+use Rattle.px_mean.specs.Serial.{Call}
 use Rattle.px_job.specs.declared.job.Call.{Call as CallOfFile}
 use Rattle.px_job.specs.declared.job.Job.{Job as JobOfFile}
 use Rattle.px_history.specs.declared.event.Event.{Event}

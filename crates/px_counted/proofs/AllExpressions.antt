@@ -13,10 +13,10 @@ use Rattle.px_facts.specs.declared.checked.Named.{Named}
 use Rattle.px_facts.specs.declared.checked.Named.TheVariants as named
 use Rattle.px_facts.specs.declared.checked.Checked.{Checked}
 use Rattle.px_effects.specs.Run.{Ask}
-use Rattle.px_semantics.specs.Facts.{type_at, named_at, params_of}
-use Rattle.px_semantics.specs.Expressions.{Calls as SourceCalls, Around, Meant, literal, this_value, called, made_object, made_array, binary}
-use Rattle.px_semantics.specs.Typing.{IsLibrary, IsTypedExpr, IsReceiver, AreArguments}
-use Rattle.px_semantics.specs.Typing as typing
+use Rattle.px_mean.specs.Facts.{type_at, named_at, params_of}
+use Rattle.px_mean.specs.Expressions.{Calls as SourceCalls, Around, Meant, literal, this_value, called, made_object, made_array, binary}
+use Rattle.px_mean.specs.Typing.{IsLibrary, IsTypedExpr, IsReceiver, AreArguments}
+use Rattle.px_mean.specs.Typing as typing
 use Rattle.px_normal.specs.declared.node.Counter.{Counter}
 use Rattle.px_normal.specs.declared.node.Counter.TheVariants.{Begun}
 use Rattle.px_normal.specs.declared.word.Operand.TheVariants.{Slot, Literal}

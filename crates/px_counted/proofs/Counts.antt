@@ -3,7 +3,7 @@ use Rattle.std.proofs.Common.{◌≡◌, ℕ, ◌+◌, nat_eq, Bool, true, false
 use Rattle.px_value.specs.Outcome.{Outcome, Gives, Throws, Asks, then_run}
 use Rattle.px_effects.specs.Run.{Shared}
 use Rattle.px_effects.specs.Act.{Place}
-use Rattle.px_semantics.specs.Run.{Frame as SourceFrame}
+use Rattle.px_mean.specs.Run.{Frame as SourceFrame}
 use Rattle.px_normal.specs.declared.node.Counter.{Counter}
 use Rattle.px_normal.specs.Run.{Ran, Traced, Frame, noted}
 use Rattle.px_counts.specs.Marks.{Mark, Marked, same_mark, times}

@@ -14,13 +14,13 @@ use Rattle.px_facts.specs.declared.checked.Named.{Named}
 use Rattle.px_facts.specs.declared.checked.Named.TheVariants as named
 use Rattle.px_facts.specs.declared.checked.Checked.{Checked}
 use Rattle.px_effects.specs.Run.{Ask, came_to}
-use Rattle.px_semantics.specs.Run.{Frame as SourceFrame, Here as SourceHere}
-use Rattle.px_semantics.specs.Facts.{type_at, op_of, element_number}
-use Rattle.px_semantics.specs.Effects.{load, get_field}
+use Rattle.px_mean.specs.Run.{Frame as SourceFrame, Here as SourceHere}
+use Rattle.px_mean.specs.Facts.{type_at, op_of, element_number}
+use Rattle.px_mean.specs.Effects.{load, get_field}
 use Rattle.px_effects.specs.Cells as cells
-use Rattle.px_semantics.specs.Expressions.{Calls as SourceCalls, Around, Meant, meant, slot_value, this_value, name_value, member_value, made_array, binary}
-use Rattle.px_semantics.specs.Typing.{IsTypedExpr, IsVariable, IsMember}
-use Rattle.px_semantics.specs.Typing as typing
+use Rattle.px_mean.specs.Expressions.{Calls as SourceCalls, Around, Meant, meant, slot_value, this_value, name_value, member_value, made_array, binary}
+use Rattle.px_mean.specs.Typing.{IsTypedExpr, IsVariable, IsMember}
+use Rattle.px_mean.specs.Typing as typing
 use Rattle.px_normal.specs.declared.node.Counter.{Counter}
 use Rattle.px_normal.specs.declared.node.Counter.TheVariants.{Begun, Completed}
 use Rattle.px_normal.specs.declared.word.Operand.{Operand}
@@ -41,7 +41,7 @@ use Rattle.px_preservation.proofs.Agree.{CallsMeet, IsLowered, Lowers, around}
 use Rattle.px_preservation.proofs.Afters.{grown}
 use Rattle.px_preservation.proofs.Program.{SameProgram}
 use Rattle.px_preservation.proofs.Operands.{IsOperand}
-use Rattle.px_semantics.proofs.Forms.{meant_type}
+use Rattle.px_mean.proofs.Forms.{meant_type}
 use Rattle.px_counted.specs.Laws.{NeverThrows}
 use Rattle.px_counted.proofs.Keeps.{KeepsHere, keeping}
 use Rattle.px_counted.proofs.Given.{gives, own_by, own_is}

@@ -9,8 +9,8 @@ use Rattle.px_facts.specs.declared.types.Ty.{Ty as Static}
 use Rattle.px_facts.specs.declared.types.Ty.TheVariants as static
 use Rattle.px_facts.specs.declared.checked.Checked.{Checked}
 use Rattle.px_effects.specs.Run.{Ask, came_to}
-use Rattle.px_semantics.specs.Run.{Frame as SourceFrame, Here as SourceHere}
-use Rattle.px_semantics.specs.Expressions.{Calls as SourceCalls, fit, widened}
+use Rattle.px_mean.specs.Run.{Frame as SourceFrame, Here as SourceHere}
+use Rattle.px_mean.specs.Expressions.{Calls as SourceCalls, fit, widened}
 use Rattle.px_normal.specs.declared.node.Counter.{Counter}
 use Rattle.px_normal.specs.declared.word.Operand.TheVariants.{Slot, Literal}
 use Rattle.px_normal.specs.declared.word.Word.{Word}

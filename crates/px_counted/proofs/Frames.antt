@@ -6,13 +6,13 @@ use Rattle.px_tree.specs.declared.Method.{Method}
 use Rattle.px_facts.specs.declared.checked.MethodFact.{MethodFact}
 use Rattle.px_facts.specs.declared.checked.Checked.{Checked}
 use Rattle.px_effects.specs.Run.{Shared, Ask}
-use Rattle.px_semantics.specs.Run.{Frame as SourceFrame}
-use Rattle.px_semantics.specs.Facts.{by_number}
-use Rattle.px_semantics.specs.Expressions.{Around, Calls as SourceCalls}
-use Rattle.px_semantics.specs.Statements.{done_by}
-use Rattle.px_semantics.specs.Calls as source
-use Rattle.px_semantics.specs.Program.{methods_of, source_from}
-use Rattle.px_semantics.specs.Typing.{IsTypedMethod, IsTyped}
+use Rattle.px_mean.specs.Run.{Frame as SourceFrame}
+use Rattle.px_mean.specs.Facts.{by_number}
+use Rattle.px_mean.specs.Expressions.{Around, Calls as SourceCalls}
+use Rattle.px_mean.specs.Statements.{done_by}
+use Rattle.px_mean.specs.Calls as source
+use Rattle.px_mean.specs.Program.{methods_of, source_from}
+use Rattle.px_mean.specs.Typing.{IsTypedMethod, IsTyped}
 use Rattle.px_normal.specs.declared.ty.Ty.{Ty}
 use Rattle.px_normal.specs.declared.word.Word.TheVariants as w
 use Rattle.px_normal.specs.declared.node.Node.{Node}

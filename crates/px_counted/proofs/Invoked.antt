@@ -14,10 +14,10 @@ use Rattle.px_effects.specs.Run.{Ask}
 use Rattle.px_effects.specs.Cells.{first_cells}
 use Rattle.px_effects.specs.Rows as rows
 use Rattle.px_effects.specs.Operations.{operation}
-use Rattle.px_semantics.specs.Run.{Frame as SourceFrame, Here as SourceHere, gather}
-use Rattle.px_semantics.specs.Facts.{type_at, by_number}
-use Rattle.px_semantics.specs.Effects.{no_object, statement_in, statements_of}
-use Rattle.px_semantics.specs.Expressions.{Calls as SourceCalls, Around, Meant, this_value, receiver, fitted, invoke, value_at, fit}
+use Rattle.px_mean.specs.Run.{Frame as SourceFrame, Here as SourceHere, gather}
+use Rattle.px_mean.specs.Facts.{type_at, by_number}
+use Rattle.px_mean.specs.Effects.{no_object, statement_in, statements_of}
+use Rattle.px_mean.specs.Expressions.{Calls as SourceCalls, Around, Meant, this_value, receiver, fitted, invoke, value_at, fit}
 use Rattle.px_normal.specs.declared.ty.Ty.{Ty}
 use Rattle.px_normal.specs.declared.node.Counter.{Counter}
 use Rattle.px_normal.specs.declared.node.Counter.TheVariants.{Begun, Completed}
@@ -38,7 +38,7 @@ use Rattle.px_preservation.proofs.Agree.{CallsMeet, IsLowered, Lowers, into, unu
 use Rattle.px_preservation.proofs.Program.{SameProgram}
 use Rattle.px_preservation.proofs.Arguments.{AllLower, arguments_row, row_none as plain_none, row_more as plain_more}
 use Rattle.px_preservation.proofs.Invoked.{this_operand}
-use Rattle.px_semantics.proofs.Forms.{meant_type}
+use Rattle.px_mean.proofs.Forms.{meant_type}
 use Rattle.px_counted.specs.Laws.{NeverThrows}
 use Rattle.px_counted.proofs.Steps.{CallsCount, call_counted, word_counted, step_works, IsNoCall}
 use Rattle.px_counted.proofs.Keeps.{KeepsHere, keeping, keeps_shared, keeps_work}

@@ -9,7 +9,7 @@ use Rattle.px_value.specs.Outcome.{Outcome, Gives, Throws, Asks, then_run, ◌>>
 use Rattle.px_effects.specs.Run.{Shared, There, Ask, in_world, asked, turn, max_turns}
 use Rattle.px_effects.specs.Act.{Act, Firsts, acted, landed, left, ended, does}
 use Rattle.px_effects.specs.Operations.{Work, Acts, Operates, works, told, Said, Answers, Out, with_said, counted, max_operations}
-use Rattle.px_semantics.specs.Run.{Frame, Here}
+use Rattle.px_mean.specs.Run.{Frame, Here}
 use Rattle.px_counts.specs.Marks.{Mark, Marked, marked_ask}
 use Rattle.px_counts.proofs.Beside.{Closed}
 

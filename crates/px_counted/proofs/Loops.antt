@@ -5,9 +5,9 @@ use Rattle.px_value.specs.declared.thrown.Thrown.TheVariants.{TurnsOut}
 use Rattle.px_value.specs.Outcome.{Outcome, Gives, Throws, then_run, ◌>>=◌, pure, throw, beside, on_shared, Flow, Goes, Returns, goes_on}
 use Rattle.px_facts.specs.declared.checked.Checked.{Checked}
 use Rattle.px_effects.specs.Run.{Shared, Ask, turn, max_turns}
-use Rattle.px_semantics.specs.Run.{Frame as SourceFrame, Here as SourceHere}
-use Rattle.px_semantics.specs.Expressions.{Calls as SourceCalls, is_true}
-use Rattle.px_semantics.specs.Statements as source
+use Rattle.px_mean.specs.Run.{Frame as SourceFrame, Here as SourceHere}
+use Rattle.px_mean.specs.Expressions.{Calls as SourceCalls, is_true}
+use Rattle.px_mean.specs.Statements as source
 use Rattle.px_normal.specs.declared.node.Counter.{Counter}
 use Rattle.px_normal.specs.declared.node.Counter.TheVariants.{Completed}
 use Rattle.px_normal.specs.declared.word.Operand.{Operand}

@@ -16,11 +16,11 @@ use Rattle.px_tree.specs.declared.StmtForm.{StmtForm, StmtForm-F, fold-StmtForm,
 use Rattle.px_tree.specs.declared.StmtForm.TheVariants.{Block, rolls-Block, Empty, rolls-Empty, Local, rolls-Local, Assign, rolls-Assign, Compound, rolls-Compound, Up, rolls-Up, Down, rolls-Down, Call as CallStmt, rolls-Call as rolls-CallStmt, If, rolls-If, While, rolls-While, For, rolls-For, Return, rolls-Return, Print, rolls-Print}
 use Rattle.px_tree.specs.declared.StmtForm.TheOpen.{StmtForm-F as g}
 use Rattle.px_facts.specs.declared.types.Ty.{Ty}
-use Rattle.px_semantics.specs.Run.{came_to}
-use Rattle.px_semantics.specs.Facts.{type_at, named_at, op_of, prefix_of}
-use Rattle.px_semantics.specs.Effects.{load, store, print_line}
-use Rattle.px_semantics.specs.Expressions.{Around, Meant, no_place, fit, literal, this_value, name_value, put_name, member_value, put_member, called, made_object, made_array, prefixed, is_true, binary, expr_step, numbered}
-use Rattle.px_semantics.specs.Statements.{Does, goes, write_local, change_local, one, all_turns, loop, or_goes, returned, stmt_step, numbered_statement}
+use Rattle.px_mean.specs.Run.{came_to}
+use Rattle.px_mean.specs.Facts.{type_at, named_at, op_of, prefix_of}
+use Rattle.px_mean.specs.Effects.{load, store, print_line}
+use Rattle.px_mean.specs.Expressions.{Around, Meant, no_place, fit, literal, this_value, name_value, put_name, member_value, put_member, called, made_object, made_array, prefixed, is_true, binary, expr_step, numbered}
+use Rattle.px_mean.specs.Statements.{Does, goes, write_local, change_local, one, all_turns, loop, or_goes, returned, stmt_step, numbered_statement}
 use Rattle.px_counts.specs.Marks.{Marked}
 use Rattle.px_counts.specs.Runs.{marked_meant, meant_with_marks, marked_does, done_with_marks}
 

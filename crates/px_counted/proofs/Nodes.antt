@@ -8,7 +8,7 @@ use Rattle.px_tree.specs.declared.Member.TheVariants as member
 use Rattle.px_facts.specs.declared.types.Ty.{Ty as Static}
 use Rattle.px_facts.specs.declared.checked.ClassFact.{ClassFact}
 use Rattle.px_facts.specs.declared.checked.Checked.{Checked}
-use Rattle.px_semantics.specs.Program.{methods_of}
+use Rattle.px_mean.specs.Program.{methods_of}
 use Rattle.px_normal.specs.declared.node.Node.{Node}
 use Rattle.px_normal.specs.declared.node.NodeKind.TheVariants.{Normal}
 use Rattle.px_normal.specs.declared.code.Site.{Site}

@@ -14,9 +14,9 @@ use Rattle.px_tree.specs.declared.ExprForm.TheVariants.{rolls-Number}
 use Rattle.px_facts.specs.declared.types.Ty.{Ty as Static}
 use Rattle.px_facts.specs.declared.checked.Checked.{Checked}
 use Rattle.px_effects.specs.Run.{Ask, came_to}
-use Rattle.px_semantics.specs.Run.{Here as SourceHere}
-use Rattle.px_semantics.specs.Facts.{type_at, prefix_of}
-use Rattle.px_semantics.specs.Expressions.{Calls as SourceCalls, Meant, prefixed}
+use Rattle.px_mean.specs.Run.{Here as SourceHere}
+use Rattle.px_mean.specs.Facts.{type_at, prefix_of}
+use Rattle.px_mean.specs.Expressions.{Calls as SourceCalls, Meant, prefixed}
 use Rattle.px_normal.specs.declared.node.Counter.{Counter}
 use Rattle.px_normal.specs.declared.node.Counter.TheVariants.{Completed}
 use Rattle.px_normal.specs.declared.method.Tree.{Tree}

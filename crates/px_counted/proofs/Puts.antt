@@ -12,11 +12,11 @@ use Rattle.px_facts.specs.declared.checked.Named.TheVariants as named
 use Rattle.px_facts.specs.declared.checked.Checked.{Checked}
 use Rattle.px_effects.specs.Cells as cells
 use Rattle.px_effects.specs.Run.{Ask}
-use Rattle.px_semantics.specs.Facts.{type_at, named_at}
-use Rattle.px_semantics.specs.Effects.{put_field, store}
-use Rattle.px_semantics.specs.Expressions.{Around, Calls as SourceCalls, Meant, fit, slot_value, assign_slot, put_name, put_member}
-use Rattle.px_semantics.specs.Typing as typing
-use Rattle.px_semantics.specs.Typing.{IsVariable, IsMember, IsTypedExpr}
+use Rattle.px_mean.specs.Facts.{type_at, named_at}
+use Rattle.px_mean.specs.Effects.{put_field, store}
+use Rattle.px_mean.specs.Expressions.{Around, Calls as SourceCalls, Meant, fit, slot_value, assign_slot, put_name, put_member}
+use Rattle.px_mean.specs.Typing as typing
+use Rattle.px_mean.specs.Typing.{IsVariable, IsMember, IsTypedExpr}
 use Rattle.px_normal.specs.declared.node.Counter.{Counter}
 use Rattle.px_normal.specs.declared.node.Counter.TheVariants.{Completed}
 use Rattle.px_normal.specs.declared.word.Operand.TheVariants.{Slot}

@@ -4,8 +4,8 @@ use Rattle.px_value.specs.declared.value.Value.{Value}
 use Rattle.px_value.specs.Outcome.{pure}
 use Rattle.px_facts.specs.declared.checked.Checked.{Checked}
 use Rattle.px_effects.specs.Run.{Ask}
-use Rattle.px_semantics.specs.Run.{Here as SourceHere}
-use Rattle.px_semantics.specs.Expressions.{Calls as SourceCalls}
+use Rattle.px_mean.specs.Run.{Here as SourceHere}
+use Rattle.px_mean.specs.Expressions.{Calls as SourceCalls}
 use Rattle.px_normal.specs.declared.node.Counter.{Counter}
 use Rattle.px_normal.specs.declared.node.Counter.TheVariants.{Completed}
 use Rattle.px_normal.specs.declared.word.Word.TheVariants as w

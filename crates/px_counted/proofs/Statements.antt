@@ -14,14 +14,14 @@ use Rattle.px_facts.specs.declared.checked.Named.TheVariants as named
 use Rattle.px_facts.specs.declared.checked.Checked.{Checked}
 use Rattle.px_effects.specs.Cells as cells
 use Rattle.px_effects.specs.Run.{Ask, came_to}
-use Rattle.px_semantics.specs.Run.{Here as SourceHere}
-use Rattle.px_semantics.specs.Facts.{type_at, named_at, op_of}
-use Rattle.px_semantics.specs.Effects.{print_line}
-use Rattle.px_semantics.specs.Expressions.{Around, Calls as SourceCalls, Meant, fit, slot_value, assign_slot}
-use Rattle.px_semantics.specs.Statements.{Does, done_by, goes, write_local, change_local, one}
-use Rattle.px_semantics.specs.Statements as source
-use Rattle.px_semantics.specs.Typing as typing
-use Rattle.px_semantics.specs.Typing.{IsTypedExpr, IsTypedStmt, AreTypedStmts}
+use Rattle.px_mean.specs.Run.{Here as SourceHere}
+use Rattle.px_mean.specs.Facts.{type_at, named_at, op_of}
+use Rattle.px_mean.specs.Effects.{print_line}
+use Rattle.px_mean.specs.Expressions.{Around, Calls as SourceCalls, Meant, fit, slot_value, assign_slot}
+use Rattle.px_mean.specs.Statements.{Does, done_by, goes, write_local, change_local, one}
+use Rattle.px_mean.specs.Statements as source
+use Rattle.px_mean.specs.Typing as typing
+use Rattle.px_mean.specs.Typing.{IsTypedExpr, IsTypedStmt, AreTypedStmts}
 use Rattle.px_normal.specs.declared.node.Counter.{Counter}
 use Rattle.px_normal.specs.declared.node.Counter.TheVariants.{Begun, Completed}
 use Rattle.px_normal.specs.declared.word.Operand.TheVariants.{Slot, Literal}

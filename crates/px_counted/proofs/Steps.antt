@@ -12,8 +12,8 @@ use Rattle.px_effects.specs.Run.{Shared, Ask, in_world, turn, max_turns}
 use Rattle.px_effects.specs.Act.{Act, Acted, acted, Landed, landed}
 use Rattle.px_effects.specs.Cells.{first_cells}
 use Rattle.px_effects.specs.Operations.{Work, Acts, Operates, told, Said, Answers, Out, with_said, counted, max_operations}
-use Rattle.px_semantics.specs.Run.{Frame as SourceFrame, Here as SourceHere}
-use Rattle.px_semantics.specs.Expressions.{Calls as SourceCalls, call_method, result_value}
+use Rattle.px_mean.specs.Run.{Frame as SourceFrame, Here as SourceHere}
+use Rattle.px_mean.specs.Expressions.{Calls as SourceCalls, call_method, result_value}
 use Rattle.px_normal.specs.declared.node.Counter.{Counter}
 use Rattle.px_normal.specs.declared.word.Operand.{Operand}
 use Rattle.px_normal.specs.declared.word.Word.{Word}

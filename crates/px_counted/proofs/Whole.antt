@@ -10,11 +10,11 @@ use Rattle.px_tree.specs.declared.Method.{Method}
 use Rattle.px_facts.specs.declared.checked.MethodFact.{MethodFact}
 use Rattle.px_facts.specs.declared.checked.Checked.{Checked}
 use Rattle.px_effects.specs.Run.{Shared, Ask}
-use Rattle.px_semantics.specs.Facts.{by_number}
-use Rattle.px_semantics.specs.Calls as source
-use Rattle.px_semantics.specs.Program.{methods_of, source_from}
-use Rattle.px_semantics.specs.Entry.{all_frames}
-use Rattle.px_semantics.specs.Typing.{IsTypedMethod, IsTyped}
+use Rattle.px_mean.specs.Facts.{by_number}
+use Rattle.px_mean.specs.Calls as source
+use Rattle.px_mean.specs.Program.{methods_of, source_from}
+use Rattle.px_mean.specs.Entry.{all_frames}
+use Rattle.px_mean.specs.Typing.{IsTypedMethod, IsTyped}
 use Rattle.px_normal.specs.declared.node.Node.{Node}
 use Rattle.px_normal.specs.declared.node.NodeKind.TheVariants.{Normal}
 use Rattle.px_normal.specs.declared.node.Counter.{Counter}

@@ -7,8 +7,8 @@ use Rattle.px_value.specs.declared.statement.TableOp.{TableOp}
 use Rattle.px_value.specs.Outcome.{Outcome, Gives, Throws, Asks}
 use Rattle.px_facts.specs.declared.checked.Checked.{Checked}
 use Rattle.px_effects.specs.Run.{Shared, Ask}
-use Rattle.px_semantics.specs.Program.{source_from}
-use Rattle.px_semantics.specs.Typing.{IsTyped}
+use Rattle.px_mean.specs.Program.{source_from}
+use Rattle.px_mean.specs.Typing.{IsTyped}
 use Rattle.px_normal.specs.declared.node.Node.{Node}
 use Rattle.px_normal.specs.declared.node.NodeKind.TheVariants.{Normal}
 use Rattle.px_normal.specs.declared.node.Counter.{Counter}

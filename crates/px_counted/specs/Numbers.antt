@@ -8,7 +8,7 @@ use Rattle.px_tree.specs.declared.StmtForm.{StmtForm-F}
 use Rattle.px_tree.specs.declared.StmtForm.TheOpen.{StmtForm-F as st}
 use Rattle.px_tree.specs.declared.Method.{Method}
 use Rattle.px_facts.specs.declared.checked.Checked.{Checked}
-use Rattle.px_semantics.specs.Program.{methods_of}
+use Rattle.px_mean.specs.Program.{methods_of}
 
 abbrev pub all_of : List ℕ → ℕ
 all_of [] = 0

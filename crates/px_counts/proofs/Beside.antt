@@ -26,12 +26,12 @@ use Rattle.px_effects.specs.Cells as cells
 use Rattle.px_effects.specs.Cells.{first_cells}
 use Rattle.px_effects.specs.Rows as rows
 use Rattle.px_effects.specs.Operations.{Work, works, operation}
-use Rattle.px_semantics.specs.Run.{Here, gather}
-use Rattle.px_semantics.specs.Facts.{element_number, type_at, named_at, by_number, fields_of, params_of, op_of, prefix_of}
-use Rattle.px_semantics.specs.Effects.{fresh_with, no_object, statement_in, statements_of, acts, only_acts, new_array, reference}
-use Rattle.px_semantics.specs.Expressions.{Calls, Around, Meant, no_place, widened, fit, literal, slot_value, assign_slot, name_value, put_name, member_value, put_member, fitted, receiver, value_at, call_method, invoke, is_operation, called, made_object, made_array, prefixed, decides, combined, binary, is_true, expr_step}
-use Rattle.px_semantics.specs.Statements.{Does, goes, write_local, change_local, one, all_turns, loop, or_goes, returned, stmt_step}
-use Rattle.px_semantics.proofs.Folds.{Both, Later, lefts, rights, left_parts, right_parts}
+use Rattle.px_mean.specs.Run.{Here, gather}
+use Rattle.px_mean.specs.Facts.{element_number, type_at, named_at, by_number, fields_of, params_of, op_of, prefix_of}
+use Rattle.px_mean.specs.Effects.{fresh_with, no_object, statement_in, statements_of, acts, only_acts, new_array, reference}
+use Rattle.px_mean.specs.Expressions.{Calls, Around, Meant, no_place, widened, fit, literal, slot_value, assign_slot, name_value, put_name, member_value, put_member, fitted, receiver, value_at, call_method, invoke, is_operation, called, made_object, made_array, prefixed, decides, combined, binary, is_true, expr_step}
+use Rattle.px_mean.specs.Statements.{Does, goes, write_local, change_local, one, all_turns, loop, or_goes, returned, stmt_step}
+use Rattle.px_mean.proofs.Folds.{Both, Later, lefts, rights, left_parts, right_parts}
 
 -- A relation of runs, of what frames share and of a frame, that what runs are made of keeps.
 pub record Closed (Q W Q' W' : Type 0) (ask : Ask Q W) (ask' : Ask Q' W') : Type 1 where

@@ -17,15 +17,15 @@ use Rattle.px_facts.specs.declared.checked.Facts.{Facts}
 use Rattle.px_effects.specs.Run.{Shared, There, Ask, in_world, asked, turn, max_turns}
 use Rattle.px_effects.specs.Act.{Act, Firsts, acted, landed, left, ended, does}
 use Rattle.px_effects.specs.Operations.{Work, Acts, Operates, works, told, Said, Answers, Out, with_said, counted, max_operations}
-use Rattle.px_semantics.specs.Run.{Frame, Here}
-use Rattle.px_semantics.specs.Facts.{by_number}
-use Rattle.px_semantics.specs.Expressions.{Calls, Around, Meant, expr_step, meant}
-use Rattle.px_semantics.specs.Statements.{Does, stmt_step, done_by}
-use Rattle.px_semantics.specs.Calls.{Source, first_slots, leaves_frame, enters, calls_in}
-use Rattle.px_semantics.specs.Entry.{all_frames, exec}
+use Rattle.px_mean.specs.Run.{Frame, Here}
+use Rattle.px_mean.specs.Facts.{by_number}
+use Rattle.px_mean.specs.Expressions.{Calls, Around, Meant, expr_step, meant}
+use Rattle.px_mean.specs.Statements.{Does, stmt_step, done_by}
+use Rattle.px_mean.specs.Calls.{Source, first_slots, leaves_frame, enters, calls_in}
+use Rattle.px_mean.specs.Entry.{all_frames, exec}
 use Rattle.px_counts.specs.Marks.{Mark, Entered, Marked, marked_ask, mark_here, unmarked_state, unmarked}
 use Rattle.px_counts.specs.Runs.{marked_meant, meant_with_marks, completed, marked_does, done_with_marks, reached, enters_with_marks, calls_with_marks, exec_with_marks}
-use Rattle.px_semantics.proofs.Folds.{lefts, rights, exprs_meet, left_parts, right_parts, stmts_meet}
+use Rattle.px_mean.proofs.Folds.{lefts, rights, exprs_meet, left_parts, right_parts, stmts_meet}
 use Rattle.px_counts.proofs.Beside.{Closed, Like, expr_alike, stmt_alike}
 
 module _ (Q W : Type 0) where

@@ -3,8 +3,8 @@ use Rattle.std.specs.Prelude.{◌≡◌, ℕ, List}
 use Rattle.px_value.specs.declared.value.Value.{Value}
 use Rattle.px_value.specs.declared.object.Object.{Object}
 use Rattle.px_effects.specs.Run.{Ask}
-use Rattle.px_semantics.specs.Calls.{Source}
-use Rattle.px_semantics.specs.Entry.{exec}
+use Rattle.px_mean.specs.Calls.{Source}
+use Rattle.px_mean.specs.Entry.{exec}
 use Rattle.px_counts.specs.Marks.{unmarked}
 use Rattle.px_counts.specs.Runs.{exec_with_marks}
 

@@ -2,7 +2,7 @@
 use Rattle.std.specs.Prelude.{ℕ, ◌+◌, nat_eq, Bool, false, List, [], ◌∷◌, ◌++◌, if◌then◌else◌}
 use Rattle.px_value.specs.Outcome.{Outcome, Gives, Throws, Asks, on_shared}
 use Rattle.px_effects.specs.Run.{Shared, There, Ask}
-use Rattle.px_semantics.specs.Run.{Here}
+use Rattle.px_mean.specs.Run.{Here}
 
 pub data Mark : Type 0 where
   -- the statement or expression of this number

@@ -1,4 +1,4 @@
--- The meaning of a program with its marks: each part by the one meaning of px_semantics, between its marks.
+-- The meaning of a program with its marks: each part by the one meaning of px_mean, between its marks.
 use Rattle.std.specs.Prelude.{ℕ, zero, suc, List, [], ◌∷◌, Option, Some, None}
 use Rattle.px_value.specs.declared.value.Value.{Value}
 use Rattle.px_value.specs.declared.value.Value.TheVariants.{Ref}
@@ -12,10 +12,10 @@ use Rattle.px_tree.specs.declared.Method.{Method}
 use Rattle.px_facts.specs.declared.types.Ty.{Ty}
 use Rattle.px_facts.specs.declared.checked.MethodFact.{MethodFact}
 use Rattle.px_effects.specs.Run.{Shared, There, Ask}
-use Rattle.px_semantics.specs.Facts.{by_number}
-use Rattle.px_semantics.specs.Expressions.{Around, Calls, Meant, expr_step, numbered}
-use Rattle.px_semantics.specs.Statements.{Does, stmt_step, numbered_statement}
-use Rattle.px_semantics.specs.Calls.{Source, first_slots, leaves_frame}
+use Rattle.px_mean.specs.Facts.{by_number}
+use Rattle.px_mean.specs.Expressions.{Around, Calls, Meant, expr_step, numbered}
+use Rattle.px_mean.specs.Statements.{Does, stmt_step, numbered_statement}
+use Rattle.px_mean.specs.Calls.{Source, first_slots, leaves_frame}
 use Rattle.px_counts.specs.Marks.{Begun, Completed, Entered, ReachedEnd, Marked, marked_ask, mark, mark_here}
 
 -- An expression is begun, and where it gives a value it completed. A place that is assigned to isn't evaluated.

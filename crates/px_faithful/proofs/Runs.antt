@@ -8,14 +8,14 @@ use Rattle.px_code.specs.declared.reply.Reply.TheVariants as reply
 use Rattle.px_facts.specs.declared.checked.Entry.{Entry as EntryOf}
 use Rattle.px_rows.specs.Tables.{Tables}
 use Rattle.px_rows.specs.Means.{fed, answers_to}
-use Rattle.px_semantics.specs.Run.{Shared}
-use Rattle.px_semantics.specs.Asks.{by_tables}
-use Rattle.px_semantics.specs.Calls.{Source}
-use Rattle.px_semantics.specs.Entry.{Called, reply_of, exec, ended, called_entry, call_of}
-use Rattle.px_semantics.specs.Serial.{Call}
-use Rattle.px_semantics.specs.Laws.{Ends as Run, on_list, IfAsks, AsksInOrder, IsAsOnList}
-use Rattle.px_semantics.proofs.OnList.{open_at_the_end}
-use Rattle.px_semantics.proofs.OnTables.{tables_as_lists}
+use Rattle.px_mean.specs.Run.{Shared}
+use Rattle.px_mean.specs.Asks.{by_tables}
+use Rattle.px_mean.specs.Calls.{Source}
+use Rattle.px_mean.specs.Entry.{Called, reply_of, exec, ended, called_entry, call_of}
+use Rattle.px_mean.specs.Serial.{Call}
+use Rattle.px_mean.specs.Laws.{Ends as Run, on_list, IfAsks, AsksInOrder, IsAsOnList}
+use Rattle.px_mean.proofs.OnList.{open_at_the_end}
+use Rattle.px_mean.proofs.OnTables.{tables_as_lists}
 use Rattle.px_history.specs.State.{is_throw}
 use Rattle.px_history.specs.Serial.{Asks, Ends, AsksAtMost, max_ops, IsBounded, Ended, run_on, prints_of}
 use Rattle.px_history.proofs.Serially.{Asked, run_is}

@@ -4,11 +4,11 @@ use Rattle.std.proofs.lemmas.Bool.{cases_eq, cases_Bool, cond-true, cond-false, 
 use Rattle.std.proofs.lemmas.List.{reverse-append}
 use Rattle.px_code.specs.declared.reply.Shown.{Shown}
 use Rattle.px_rows.specs.Tables.{Tables}
-use Rattle.px_semantics.specs.Facts.{by_number}
-use Rattle.px_semantics.specs.Calls.{Source}
-use Rattle.px_semantics.specs.Asks.{by_tables}
-use Rattle.px_semantics.specs.Entry.{Called, call_of, first_heap}
-use Rattle.px_semantics.specs.Serial.{Call, Stand, with_heap as stand_heap, shown_of, stand_after, call_by, one_call as source_call, serves, first_stand}
+use Rattle.px_mean.specs.Facts.{by_number}
+use Rattle.px_mean.specs.Calls.{Source}
+use Rattle.px_mean.specs.Asks.{by_tables}
+use Rattle.px_mean.specs.Entry.{Called, call_of, first_heap}
+use Rattle.px_mean.specs.Serial.{Call, Stand, with_heap as stand_heap, shown_of, stand_after, call_by, one_call as source_call, serves, first_stand}
 use Rattle.px_history.specs.State.{is_throw}
 use Rattle.px_history.specs.Serial.{Ended, Entry, Serial, max_ops, run_on, with_heap, settled, one_call, as_new, run_all}
 use Rattle.px_history.proofs.Rows.{get_set_same, get_set_other}

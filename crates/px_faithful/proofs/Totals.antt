@@ -2,7 +2,7 @@
 use Rattle.std.proofs.Common.{◌≡◌, ◌≢◌, ℕ, zero, suc, ◌+◌, ◌*◌, ◌≤◌, All, List, [], ◌∷◌, length, refl, sym, ap, ◌∙◌, subst, arith, inl, inr}
 use Rattle.std.proofs.Math.Nat.{add-mul}
 use Rattle.std.proofs.lemmas.Bool.{cases_eq, cond-true, cond-false, eq-eqb, ne_eqb}
-use Rattle.px_semantics.specs.Serial.{Call}
+use Rattle.px_mean.specs.Serial.{Call}
 use Rattle.px_history.specs.declared.event.Event.{Event}
 use Rattle.px_history.specs.Attempts.{session_of}
 use Rattle.px_history.specs.Moves.{made}

@@ -2,7 +2,7 @@
 use Rattle.std.proofs.Common.{◌≡◌, ℕ, zero, suc, ◌+◌, ◌<◌, ◌≤◌, ◌==◌, true, List, [], ◌∷◌, ◌++◌, length, All, Option, Some, None, is_some, slice_get, reverse, refl, sym, ap, ◌∙◌, subst, arith, inl, inr}
 use Rattle.std.proofs.lemmas.Bool.{both_ways, cases_Bool, cond-true, cond-false, eqb-true}
 use Rattle.std.proofs.lemmas.List.{reverse-append}
-use Rattle.px_semantics.specs.Serial.{Call}
+use Rattle.px_mean.specs.Serial.{Call}
 use Rattle.px_history.specs.declared.event.Event.{Event}
 use Rattle.px_history.specs.declared.event.Event.TheVariants.{Begin, Op, Die, End, Drop}
 use Rattle.px_history.specs.Attempts.{call_of, is_active}

@@ -1,10 +1,10 @@
 -- Faithful histories. A history has its latest event first.
 use Rattle.std.specs.Prelude.{◌≡◌, ℕ, ◌≤◌, ◌+◌, ◌*◌, false, List, All, length, reverse, Some}
 use Rattle.px_rows.specs.Tables.{Tables}
-use Rattle.px_semantics.specs.Facts.{by_number}
-use Rattle.px_semantics.specs.Calls.{Source}
-use Rattle.px_semantics.specs.Serial.{Call, serial}
-use Rattle.px_semantics.specs.Asks.{by_tables}
+use Rattle.px_mean.specs.Facts.{by_number}
+use Rattle.px_mean.specs.Calls.{Source}
+use Rattle.px_mean.specs.Serial.{Call, serial}
+use Rattle.px_mean.specs.Asks.{by_tables}
 use Rattle.px_history.specs.declared.event.Event.{Event}
 use Rattle.px_history.specs.Legal.{IsLegal}
 use Rattle.px_history.specs.Locking.{core_locks}

@@ -6,11 +6,11 @@ use Rattle.px_value.specs.declared.answer.Answer.{Answer}
 use Rattle.px_value.specs.Outcome.{Gives, Throws, Asks as Open}
 use Rattle.px_code.specs.declared.reply.Reply.TheVariants as reply
 use Rattle.px_facts.specs.declared.checked.Entry.{Entry as EntryOf}
-use Rattle.px_semantics.specs.Facts.{by_number}
-use Rattle.px_semantics.specs.Calls.{Source}
-use Rattle.px_semantics.specs.Entry.{first_heap, reply_of}
-use Rattle.px_semantics.specs.Serial.{Call}
-use Rattle.px_semantics.specs.Laws.{Ends as Run, on_list}
+use Rattle.px_mean.specs.Facts.{by_number}
+use Rattle.px_mean.specs.Calls.{Source}
+use Rattle.px_mean.specs.Entry.{first_heap, reply_of}
+use Rattle.px_mean.specs.Serial.{Call}
+use Rattle.px_mean.specs.Laws.{Ends as Run, on_list}
 use Rattle.px_history.specs.Legal.{Calls}
 use Rattle.px_history.specs.Serial.{Outcome, Asks, Ends, Meaning, Entry}
 

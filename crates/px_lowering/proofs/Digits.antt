@@ -3,7 +3,7 @@ use Rattle.std.proofs.Common.{◌≡◌, ℕ, suc, ◌+◌, ◌-◌, ◌*◌, �
 use Rattle.std.specs.Int.{int_wrap, cast_signed}
 use Rattle.std.proofs.Math.Nat.{mod-add-mod, mod-mod, mod-mod_of_dvd, dvd_of_mod-eq-zero}
 use Rattle.std.proofs.lemmas.Nat.{mul-mod_first}
-use Rattle.px_semantics.specs.Expressions.{decimal_value}
+use Rattle.px_mean.specs.Expressions.{decimal_value}
 
 step : (m a b k : ℕ) → a % m ≡ b % m → (a * 10 + k) % m ≡ (b * 10 + k) % m
 step m a b k h =

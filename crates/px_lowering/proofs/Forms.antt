@@ -9,8 +9,8 @@ use Rattle.px_tree.specs.declared.ExprForm.{ExprForm, ExprForm-F, out-ExprForm, 
 use Rattle.px_tree.specs.declared.ExprForm.TheVariants.{Number, rolls-Number, Str, rolls-Str, True, rolls-True, False, rolls-False, Null as NullForm, rolls-Null, This, rolls-This, Name, rolls-Name, Group, rolls-Group, Field, rolls-Field, Index, rolls-Index, Call, rolls-Call, NewObject, rolls-NewObject, NewArray, rolls-NewArray, Prefix, rolls-Prefix, Binary, rolls-Binary}
 use Rattle.px_tree.specs.declared.ExprForm.TheOpen.{ExprForm-F as f}
 use Rattle.px_facts.specs.declared.checked.Checked.{Checked}
-use Rattle.px_semantics.specs.Facts.{type_at, named_at, prefix_of}
-use Rattle.px_semantics.specs.Expressions.{literal}
+use Rattle.px_mean.specs.Facts.{type_at, named_at, prefix_of}
+use Rattle.px_mean.specs.Expressions.{literal}
 use Rattle.px_normal.specs.declared.word.Operand.TheVariants.{Slot}
 use Rattle.px_lowering.specs.declared.valued.Had.TheVariants.{Held}
 use Rattle.px_lowering.specs.Expressions.{Part, Low, low_value, part_in, valued, stands, name_had, member_low, index_low, object_had, array_low, number_in, number_of, literal_behind, prefix_low, binary_low, call_low, expr_low, placed, low, part_of}

@@ -3,7 +3,7 @@ use Rattle.std.proofs.Common.{◌≡◌, Bool, true, false, List, [], ◌∷◌,
 use Rattle.px_tree.specs.declared.Expr.{Expr}
 use Rattle.px_facts.specs.declared.checked.Checked.{Checked}
 use Rattle.px_facts.specs.declared.checked.Named.{Named}
-use Rattle.px_semantics.specs.Expressions.{is_operation, operands}
+use Rattle.px_mean.specs.Expressions.{is_operation, operands}
 use Rattle.px_normal.specs.declared.word.Operand.{Operand}
 use Rattle.px_lowering.specs.Expressions.{first_or, part_of}
 

@@ -11,7 +11,7 @@ use Rattle.px_tree.specs.declared.StmtForm.TheVariants.{Block, rolls-Block, Empt
 use Rattle.px_tree.specs.declared.StmtForm.TheOpen.{StmtForm-F as f}
 use Rattle.px_facts.specs.declared.types.Ty.{Ty as Static}
 use Rattle.px_facts.specs.declared.checked.Checked.{Checked}
-use Rattle.px_semantics.specs.Facts.{type_at, named_at, op_of}
+use Rattle.px_mean.specs.Facts.{type_at, named_at, op_of}
 use Rattle.px_lowering.specs.Expressions.{part_of, put_low}
 use Rattle.px_lowering.specs.Statements.{Steps, whole, last_completes, either_completes, completes_step, completes, lower_all, local_low, compound_low, by_one_low, call_low, if_low, loop_low, for_low, return_low, print_low, stmt_low, placed, low_stmt}
 

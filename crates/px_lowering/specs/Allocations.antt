@@ -13,7 +13,7 @@ use Rattle.px_facts.specs.declared.types.Ty.TheVariants as static
 use Rattle.px_facts.specs.declared.checked.Facts.{Facts}
 use Rattle.px_facts.specs.declared.checked.Named.{Named}
 use Rattle.px_facts.specs.declared.checked.Named.TheVariants as named
-use Rattle.px_semantics.specs.Facts.{type_at, named_at, element_number}
+use Rattle.px_mean.specs.Facts.{type_at, named_at, element_number}
 use Rattle.px_lowering.specs.declared.allocations.Allocation.{Allocation}
 use Rattle.px_lowering.specs.Statements.{whole}
 

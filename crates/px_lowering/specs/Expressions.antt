@@ -15,8 +15,8 @@ use Rattle.px_facts.specs.declared.types.Ty.TheVariants as static
 use Rattle.px_facts.specs.declared.checked.Checked.{Checked}
 use Rattle.px_facts.specs.declared.checked.Named.{Named}
 use Rattle.px_facts.specs.declared.checked.Named.TheVariants as named
-use Rattle.px_semantics.specs.Facts.{type_at, named_at, params_of, op_of, prefix_of, element_number}
-use Rattle.px_semantics.specs.Expressions.{literal, is_operation, operands}
+use Rattle.px_mean.specs.Facts.{type_at, named_at, params_of, op_of, prefix_of, element_number}
+use Rattle.px_mean.specs.Expressions.{literal, is_operation, operands}
 use Rattle.px_normal.specs.declared.word.Operand.{Operand}
 use Rattle.px_normal.specs.declared.word.Operand.TheVariants.{Slot, Literal}
 use Rattle.px_normal.specs.declared.word.Word.TheVariants as w

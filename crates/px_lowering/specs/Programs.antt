@@ -16,7 +16,7 @@ use Rattle.px_facts.specs.declared.checked.Facts.{Facts}
 use Rattle.px_facts.specs.declared.checked.ClassFact.{ClassFact}
 use Rattle.px_facts.specs.declared.checked.MethodFact.{MethodFact}
 use Rattle.px_facts.specs.declared.operation.Operation.{Operation}
-use Rattle.px_semantics.specs.Program.{methods_of}
+use Rattle.px_mean.specs.Program.{methods_of}
 use Rattle.px_normal.specs.declared.word.Word.TheVariants as w
 use Rattle.px_normal.specs.declared.class.Class.{Class as CodeClass}
 use Rattle.px_normal.specs.declared.class.Field.{Field}

@@ -10,8 +10,8 @@ use Rattle.px_facts.specs.Types.{is_void}
 use Rattle.px_facts.specs.declared.checked.Checked.{Checked}
 use Rattle.px_facts.specs.declared.checked.Named.{Named}
 use Rattle.px_facts.specs.declared.checked.Named.TheVariants as named
-use Rattle.px_semantics.specs.Facts.{type_at, named_at, op_of}
-use Rattle.px_semantics.specs.Statements.{one}
+use Rattle.px_mean.specs.Facts.{type_at, named_at, op_of}
+use Rattle.px_mean.specs.Statements.{one}
 use Rattle.px_normal.specs.declared.word.Operand.{Operand}
 use Rattle.px_normal.specs.declared.word.Operand.TheVariants.{Slot, Literal}
 use Rattle.px_normal.specs.declared.word.Word.TheVariants as w

@@ -1,6 +1,6 @@
 //! Assignments, declarations, and calls whose results aren't used.
 ghost use Rattle.std.specs.Prelude.{◌≡◌, OnOk};
-ghost use Rattle.px_semantics.specs.Facts as mean;
+ghost use Rattle.px_mean.specs.Facts as mean;
 ghost use Rattle.px_lowering.specs.Expressions as expressions;
 ghost use Rattle.px_lowering.specs.Statements as statements;
 

@@ -1,7 +1,7 @@
 //! Calls, when their operands are there.
 ghost use Rattle.std.specs.Prelude.{◌≡◌, slice_index_or, IfOk};
-ghost use Rattle.px_semantics.specs.Expressions as mean;
-ghost use Rattle.px_semantics.specs.Facts as mean_facts;
+ghost use Rattle.px_mean.specs.Expressions as mean;
+ghost use Rattle.px_mean.specs.Facts as mean_facts;
 ghost use Rattle.px_lowering.specs.Expressions as expressions;
 
 use crate::expression::{made, stands};

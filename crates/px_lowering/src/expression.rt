@@ -1,7 +1,7 @@
 //! The values of expressions.
 ghost use Rattle.std.specs.Prelude.{◌≡◌, ◌++◌, ◌∷◌, [], map, option_map, IfOk, OnOk};
-ghost use Rattle.px_semantics.specs.Expressions as mean;
-ghost use Rattle.px_semantics.specs.Facts as mean_facts;
+ghost use Rattle.px_mean.specs.Expressions as mean;
+ghost use Rattle.px_mean.specs.Facts as mean_facts;
 ghost use Rattle.px_lowering.specs.Emit.{with_trees};
 ghost use Rattle.px_lowering.specs.Expressions as expressions;
 

@@ -1,6 +1,6 @@
 //! What is known of statements and expressions, and types as code has them.
 ghost use Rattle.std.specs.Prelude.{◌≡◌, IfOk};
-ghost use Rattle.px_semantics.specs.Facts as mean;
+ghost use Rattle.px_mean.specs.Facts as mean;
 ghost use Rattle.px_lowering.specs.Types.{code_type, code_result};
 
 use px_facts::{Element, Facts, Named, Ty as Static};

@@ -1,8 +1,8 @@
 //! The values of literals, and the operators of signs.
 ghost use Rattle.std.specs.Prelude.{◌≡◌, ◌%◌, ◌^◌};
-ghost use Rattle.px_semantics.specs.Facts.{op_of as mean_op_of, plus_of as mean_plus_of, prefix_of as mean_prefix_of};
-ghost use Rattle.px_semantics.specs.Expressions.{decimal_value, literal as mean_literal};
-ghost use Rattle.px_semantics.specs.Statements.{one as mean_one};
+ghost use Rattle.px_mean.specs.Facts.{op_of as mean_op_of, plus_of as mean_plus_of, prefix_of as mean_prefix_of};
+ghost use Rattle.px_mean.specs.Expressions.{decimal_value, literal as mean_literal};
+ghost use Rattle.px_mean.specs.Statements.{one as mean_one};
 ghost use Rattle.px_lowering.specs.Expressions.{negated, choice_of as choice_of_sign};
 
 use px_facts::Ty;

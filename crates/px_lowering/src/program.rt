@@ -1,6 +1,6 @@
 //! A whole program.
 ghost use Rattle.std.specs.Prelude.{◌≡◌, ◌++◌, [], ◌∷◌, length, map, IfOk, OnOk};
-ghost use Rattle.px_semantics.specs.Program.{methods_in as methods_in_members, methods_of as methods_of_classes};
+ghost use Rattle.px_mean.specs.Program.{methods_in as methods_in_members, methods_of as methods_of_classes};
 ghost use Rattle.px_lowering.specs.Methods.{all_now};
 ghost use Rattle.px_lowering.specs.Programs as programs;
 

@@ -1,7 +1,7 @@
 use crate::text::text_of;
-use px_grammar::parse;
+use px_parse::parse;
 use px_lowering::lower;
-use px_rules::check;
+use px_types::check;
 use px_sql::read_schema;
 use std::alloc::{AllocError, Global};
 use std::process::Abort;

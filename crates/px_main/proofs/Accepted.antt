@@ -8,14 +8,14 @@ use Rattle.px_tree.specs.declared.Program.{Program}
 use Rattle.px_facts.specs.declared.checked.Checked.{Checked}
 use Rattle.px_facts.specs.declared.checked.Entry.{Entry}
 use Rattle.px_effects.specs.Run.{Ask}
-use Rattle.px_grammar.specs.Programs.{IsProgram}
+use Rattle.px_parse.specs.Programs.{IsProgram}
 use Rattle.px_sql.specs.Tables.{schema_of}
-use Rattle.px_rules.specs.declared.breach.Breach.{Breach}
-use Rattle.px_rules.specs.Programs.{first_breach_of, max_fields}
-use Rattle.px_rules.specs.Methods.{max_tokens}
-use Rattle.px_rules.specs.Checked.{checked_of}
-use Rattle.px_semantics.specs.Program.{source_from}
-use Rattle.px_semantics.specs.Entry.{exec}
+use Rattle.px_types.specs.declared.breach.Breach.{Breach}
+use Rattle.px_types.specs.Programs.{first_breach_of, max_fields}
+use Rattle.px_types.specs.Methods.{max_tokens}
+use Rattle.px_types.specs.Checked.{checked_of}
+use Rattle.px_mean.specs.Program.{source_from}
+use Rattle.px_mean.specs.Entry.{exec}
 use Rattle.px_normal.specs.declared.method.Method.{Method}
 use Rattle.px_normal.specs.First.{numbered}
 use Rattle.px_normal.specs.Run.{untraced}

@@ -3,10 +3,10 @@ use Rattle.std.proofs.Common.{◌≡◌, ℕ, List, [], map, Option, Some, None,
 use Rattle.px_facts.specs.declared.checked.Checked.{Checked}
 use Rattle.px_tree.specs.declared.Program.{Program}
 use Rattle.px_sql.specs.Tables.{schema_of}
-use Rattle.px_grammar.proofs.Programs.{one_line, no_program, one_program}
+use Rattle.px_parse.proofs.Programs.{one_line, no_program, one_program}
 use Rattle.px_code.specs.declared.reply.Done.{Done}
 use Rattle.px_code.proofs.OneCut.{one_cut}
-use Rattle.px_semantics.specs.Entry.{first_heap}
+use Rattle.px_mean.specs.Entry.{first_heap}
 use Rattle.px_session.proofs.Once.{calls_are_told_once}
 use Rattle.px_session.proofs.Kept.{keep_is_not_told}
 use Rattle.px_report.specs.History.{report_text}

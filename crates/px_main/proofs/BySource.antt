@@ -14,10 +14,10 @@ use Rattle.px_code.specs.Sound.{CodeOutcome, run_of as simple_run}
 use Rattle.px_code.specs.Stale.{Event}
 use Rattle.px_half.specs.End.{fields_of as types_in, class_defaults, first_object}
 use Rattle.px_rows.specs.Tables.{Tables}
-use Rattle.px_semantics.specs.Asks.{by_tables}
-use Rattle.px_semantics.specs.Facts as source
-use Rattle.px_semantics.specs.Program.{source_from}
-use Rattle.px_semantics.specs.Entry.{Called as Meant, ended, exec, first_heap}
+use Rattle.px_mean.specs.Asks.{by_tables}
+use Rattle.px_mean.specs.Facts as source
+use Rattle.px_mean.specs.Program.{source_from}
+use Rattle.px_mean.specs.Entry.{Called as Meant, ended, exec, first_heap}
 use Rattle.px_normal.specs.declared.ty.Ty.{Ty as CodeTy}
 use Rattle.px_normal.specs.declared.ty.Ty.TheVariants as code_ty
 use Rattle.px_normal.specs.declared.class.Class.{Class}

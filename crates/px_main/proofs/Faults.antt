@@ -3,11 +3,11 @@ use Rattle.std.proofs.Common.{◌≡◌, ℕ, Option, Some, None, Ok, Err, sym, 
 use Rattle.std.specs.Option.{option_map}
 use Rattle.px_tree.specs.declared.Program.{Program}
 use Rattle.px_facts.specs.declared.checked.Checked.{Checked}
-use Rattle.px_rules.specs.declared.breach.Breach.{Breach}
-use Rattle.px_rules.specs.declared.error.CheckError.{CheckError}
-use Rattle.px_rules.specs.declared.error.CheckError.TheVariants.{TypeFault}
-use Rattle.px_rules.specs.Programs.{first_breach_of}
-use Rattle.px_rules.specs.Checked as rules
+use Rattle.px_types.specs.declared.breach.Breach.{Breach}
+use Rattle.px_types.specs.declared.error.CheckError.{CheckError}
+use Rattle.px_types.specs.declared.error.CheckError.TheVariants.{TypeFault}
+use Rattle.px_types.specs.Programs.{first_breach_of}
+use Rattle.px_types.specs.Checked as rules
 use Rattle.px_main.specs.declared.fault.ProgramCode.TheVariants.{Rule}
 use Rattle.px_value.specs.declared.schema.Schema.{Schema}
 use Rattle.px_main.specs.Whole.{fault_at, by_rules}

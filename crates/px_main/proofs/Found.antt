@@ -1,7 +1,7 @@
 -- What is found in a text that the grammar gives a program.
 use Rattle.std.proofs.Common.{◌≡◌, ℕ, List, Result, Ok, Err, IfOk}
 use Rattle.px_tree.specs.declared.Program.{Program}
-use Rattle.px_grammar.specs.Programs.{IsProgram}
+use Rattle.px_parse.specs.Programs.{IsProgram}
 use Rattle.px_sql.specs.Tables.{schema_of}
 use Rattle.px_main.specs.Whole.{Found, IsFound, grammatical, by_tables}
 

@@ -4,8 +4,8 @@ use Rattle.px_value.specs.declared.object.Object.{Object}
 use Rattle.px_code.specs.declared.reply.Shown.{Shown}
 use Rattle.px_facts.specs.declared.checked.Checked.{Checked}
 use Rattle.px_rows.specs.Tables.{Tables}
-use Rattle.px_semantics.specs.Serial.{Call}
-use Rattle.px_interpreter.specs.Serial.{serial_of, ran_of}
+use Rattle.px_mean.specs.Serial.{Call}
+use Rattle.px_plain.specs.Serial.{serial_of, ran_of}
 use Rattle.px_job.specs.declared.job.Job.{Job}
 use Rattle.px_report.specs.declared.calls.ShownCall.{ShownCall}
 use Rattle.px_report.specs.Runs.{run_text}

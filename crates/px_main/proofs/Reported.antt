@@ -6,7 +6,7 @@ use Rattle.px_code.specs.declared.event.Event.{Event}
 use Rattle.px_code.specs.declared.reply.Done.{Done}
 use Rattle.px_code.specs.declared.reply.Shown.{Shown}
 use Rattle.px_rows.specs.Tables.{Tables}
-use Rattle.px_interpreter.specs.Serial.{ran_of}
+use Rattle.px_plain.specs.Serial.{ran_of}
 use Rattle.px_job.specs.declared.job.Job.{Job}
 use Rattle.px_report.specs.History.{report_text}
 use Rattle.px_main.specs.Run.{Ran, class_names, run_of}

@@ -11,11 +11,11 @@ use Rattle.px_code.specs.declared.reply.Done.{Done}
 use Rattle.px_code.specs.declared.reply.Shown.{Shown}
 use Rattle.px_code.specs.Stale.{Event}
 use Rattle.px_rows.specs.Tables.{Tables}
-use Rattle.px_semantics.specs.Asks.{by_tables}
-use Rattle.px_semantics.specs.Program.{source_from}
-use Rattle.px_semantics.specs.Entry.{Called as Meant, ended, exec, called_entry, call_of}
-use Rattle.px_semantics.specs.Serial.{Call as Wanted, Stand, shown_of, one_call, serves}
-use Rattle.px_semantics.specs.Calls.{Source}
+use Rattle.px_mean.specs.Asks.{by_tables}
+use Rattle.px_mean.specs.Program.{source_from}
+use Rattle.px_mean.specs.Entry.{Called as Meant, ended, exec, called_entry, call_of}
+use Rattle.px_mean.specs.Serial.{Call as Wanted, Stand, shown_of, one_call, serves}
+use Rattle.px_mean.specs.Calls.{Source}
 use Rattle.px_lowering.specs.Programs.{lowered}
 use Rattle.px_straight.specs.Straight.{straight}
 use Rattle.px_job.specs.declared.job.Call.{Call as JobCall}

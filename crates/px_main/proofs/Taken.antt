@@ -7,9 +7,9 @@ use Rattle.px_code.specs.declared.code.Code.{Code}
 use Rattle.px_code.specs.declared.placement.Placement.{Placement}
 use Rattle.px_code.specs.declared.reply.Done.{Done}
 use Rattle.px_code.specs.WellFormed.{IsWellFormed}
-use Rattle.px_semantics.specs.Asks.{by_tables}
-use Rattle.px_semantics.specs.Program.{source_from}
-use Rattle.px_semantics.specs.Serial.{serial}
+use Rattle.px_mean.specs.Asks.{by_tables}
+use Rattle.px_mean.specs.Program.{source_from}
+use Rattle.px_mean.specs.Serial.{serial}
 use Rattle.px_lowering.specs.Programs.{lowered}
 use Rattle.px_straight.proofs.WellFormed.{is_well_formed}
 use Rattle.px_job.specs.declared.job.Call.{Call as JobCall}

@@ -3,7 +3,7 @@ use Rattle.std.specs.Prelude.{◌≡◌, ℕ, List, Ok}
 use Rattle.px_value.specs.declared.schema.Schema.{Schema}
 use Rattle.px_tree.specs.declared.Program.{Program}
 use Rattle.px_facts.specs.declared.checked.Checked.{Checked}
-use Rattle.px_rules.specs.Checked.{checked_of}
+use Rattle.px_types.specs.Checked.{checked_of}
 use Rattle.px_soundness.specs.Laws.{IsAccepted}
 use Rattle.px_lowering.specs.Programs.{lowered}
 use Rattle.px_straight.specs.Straight.{straight}

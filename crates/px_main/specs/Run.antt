@@ -7,9 +7,9 @@ use Rattle.px_tree.specs.declared.Class.{Class}
 use Rattle.px_facts.specs.declared.checked.Checked.{Checked}
 use Rattle.px_rows.specs.Tables.{Tables, has_key, empty_tables}
 use Rattle.px_rows.specs.Means.{place_of_row, loaded}
-use Rattle.px_semantics.specs.Asks.{by_tables}
-use Rattle.px_semantics.specs.Program.{source_from}
-use Rattle.px_semantics.specs.Serial.{Call, Stand, serial}
+use Rattle.px_mean.specs.Asks.{by_tables}
+use Rattle.px_mean.specs.Program.{source_from}
+use Rattle.px_mean.specs.Serial.{Call, Stand, serial}
 use Rattle.px_job.specs.declared.job.Call.{Call as JobCall}
 use Rattle.px_job.specs.declared.job.Row.{Row}
 use Rattle.px_job.specs.declared.job.Job.{Job}

@@ -11,9 +11,9 @@ use Rattle.px_code.specs.declared.reply.Done.{Done}
 use Rattle.px_code.specs.declared.reply.Shown.{Shown}
 use Rattle.px_code.specs.Cut.{AreBlocks}
 use Rattle.px_rows.specs.Tables.{Tables}
-use Rattle.px_semantics.specs.Asks.{by_tables}
-use Rattle.px_semantics.specs.Program.{source_from}
-use Rattle.px_semantics.specs.Entry.{Called as Meant, ended, exec, first_heap}
+use Rattle.px_mean.specs.Asks.{by_tables}
+use Rattle.px_mean.specs.Program.{source_from}
+use Rattle.px_mean.specs.Entry.{Called as Meant, ended, exec, first_heap}
 use Rattle.px_lowering.specs.Programs.{lowered}
 use Rattle.px_straight.specs.Simple.{simple_code}
 use Rattle.px_job.specs.declared.job.Call.{Call as JobCall}

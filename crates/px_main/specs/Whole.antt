@@ -2,15 +2,15 @@
 use Rattle.std.specs.Prelude.{◌≡◌, ℕ, List, Option, Some, None, Result, Ok, Err, slice_get}
 use Rattle.px_tree.specs.declared.Program.{Program}
 use Rattle.px_facts.specs.declared.checked.Checked.{Checked}
-use Rattle.px_grammar.specs.Programs.{IsProgram}
-use Rattle.px_grammar.specs.Places.{IsRefusedAt}
-use Rattle.px_grammar.specs.Places.{line_at}
+use Rattle.px_parse.specs.Programs.{IsProgram}
+use Rattle.px_parse.specs.Places.{IsRefusedAt}
+use Rattle.px_parse.specs.Places.{line_at}
 use Rattle.px_sql.specs.Tables.{schema_of}
 use Rattle.px_value.specs.declared.schema.Schema.{Schema}
 use Rattle.px_tree.specs.declared.TableDecl.{TableDecl}
-use Rattle.px_rules.specs.declared.breach.Breach.{Breach}
-use Rattle.px_rules.specs.Programs.{first_breach_of}
-use Rattle.px_rules.specs.Checked.{checked_of, line_in}
+use Rattle.px_types.specs.declared.breach.Breach.{Breach}
+use Rattle.px_types.specs.Programs.{first_breach_of}
+use Rattle.px_types.specs.Checked.{checked_of, line_in}
 use Rattle.px_main.specs.declared.fault.Fault.{Fault}
 use Rattle.px_main.specs.declared.fault.ProgramCode.{ProgramCode}
 use Rattle.px_main.specs.declared.fault.ProgramCode.TheVariants.{TooLong, Syntax, Rule}

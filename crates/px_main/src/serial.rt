@@ -1,10 +1,10 @@
 //! The serial run of a job by the meaning of the source.
 ghost use Rattle.std.specs.Prelude.{◌≡◌, map, IfOk, OnOk};
-ghost use Rattle.px_interpreter.specs.Serial.{told_call, ran_of};
+ghost use Rattle.px_plain.specs.Serial.{told_call, ran_of};
 ghost use Rattle.px_main.specs.Run.{wanted, with_row, tables_of, run_of};
 
 use px_facts::Checked;
-use px_interpreter::{Call, Ran, serve};
+use px_plain::{Call, Ran, serve};
 use px_job::{Job, Row};
 use px_rows::{LoadError, Tables};
 use px_tree::Class;

@@ -1,15 +1,15 @@
 //! What the rules of the language find in a program file.
 ghost use Rattle.std.specs.Prelude.{◌≡◌, ◌≤◌, length, IfSome, IfOk, slice_get};
 ghost use Rattle.std.specs.Option.{option_map};
-ghost use Rattle.px_rules.specs.Programs.{first_breach_of};
+ghost use Rattle.px_types.specs.Programs.{first_breach_of};
 ghost use Rattle.px_sql.specs.Tables.{schema_of};
 ghost use Rattle.px_main.specs.Answers.{max_program};
 ghost use Rattle.px_main.specs.Whole.{by_rules, by_tables, table_line, IsFound, JudgesWhole};
 
 use crate::fault::{Fault, ProgramCode};
 use px_facts::Checked;
-use px_grammar::{ParseError, line_at, parse};
-use px_rules::{CheckError, check};
+use px_parse::{ParseError, line_at, parse};
+use px_types::{CheckError, check};
 use px_sql::{SchemaError, read_schema};
 use px_tree::Program;
 use px_value::Schema;

@@ -13,7 +13,7 @@ use Rattle.px_effects.specs.Act.{Act, Comes, Prints, Reads, Writes, Looks, Makes
 use Rattle.px_effects.specs.Cells.{Fresh, first_cells, reference, or_throws, place_of, length_in, array_size, get_field, put_field, array_length, load, store, make_object, make_array}
 use Rattle.px_effects.specs.Rows.{Statements, next, get_column, cell_in, standing, width_at, all_written, make_rows, changed}
 use Rattle.px_effects.specs.Operations.{Work, Acts, Operates, operation, operates_on, sent, told, with_said, works, Said, Answers, Out}
-use Rattle.px_semantics.specs.Effects.{no_object}
+use Rattle.px_mean.specs.Effects.{no_object}
 
 -- the same first cells wherever it makes an object
 abbrev pub MakesSame : Firsts → Firsts → Act → Type 0

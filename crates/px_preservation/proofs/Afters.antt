@@ -2,7 +2,7 @@
 use Rattle.std.proofs.Common.{◌≡◌, ℕ, ◌+◌, ◌<◌, ◌≤◌, List, [], ◌∷◌, ◌++◌, append_assoc, length, length-append, Option, Some, None, slice_get, unwrap_or, refl, sym, ap, ◌∙◌, arith}
 use Rattle.px_value.specs.declared.value.Value.{Value}
 use Rattle.px_value.specs.declared.value.Value.TheVariants.{Null}
-use Rattle.px_semantics.specs.Run.{Frame as SourceFrame}
+use Rattle.px_mean.specs.Run.{Frame as SourceFrame}
 use Rattle.px_normal.specs.declared.word.Operand.{Operand}
 use Rattle.px_normal.specs.declared.word.Operand.TheVariants.{Slot, Literal}
 use Rattle.px_normal.specs.Run.{Frame}

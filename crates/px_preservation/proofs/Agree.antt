@@ -7,9 +7,9 @@ use Rattle.px_tree.specs.declared.Stmt.{Stmt}
 use Rattle.px_facts.specs.declared.types.Ty.{Ty as Static}
 use Rattle.px_facts.specs.declared.checked.Checked.{Checked}
 use Rattle.px_effects.specs.Run.{Shared, Ask}
-use Rattle.px_semantics.specs.Run.{Frame as SourceFrame, Here as SourceHere}
-use Rattle.px_semantics.specs.Expressions.{Around, Calls as SourceCalls, meant}
-use Rattle.px_semantics.specs.Statements.{done_by}
+use Rattle.px_mean.specs.Run.{Frame as SourceFrame, Here as SourceHere}
+use Rattle.px_mean.specs.Expressions.{Around, Calls as SourceCalls, meant}
+use Rattle.px_mean.specs.Statements.{done_by}
 use Rattle.px_normal.specs.declared.ty.Ty.{Ty}
 use Rattle.px_normal.specs.declared.word.Operand.{Operand}
 use Rattle.px_normal.specs.declared.word.Operand.TheVariants.{Slot, Literal}

@@ -7,8 +7,8 @@ use Rattle.px_facts.specs.declared.types.Ty.{Ty as Static}
 use Rattle.px_facts.specs.declared.types.Ty.TheVariants as static
 use Rattle.px_facts.specs.declared.checked.Checked.{Checked}
 use Rattle.px_effects.specs.Run.{Ask}
-use Rattle.px_semantics.specs.Run.{Frame as SourceFrame, Here as SourceHere, gather}
-use Rattle.px_semantics.specs.Expressions.{Calls as SourceCalls, fitted}
+use Rattle.px_mean.specs.Run.{Frame as SourceFrame, Here as SourceHere, gather}
+use Rattle.px_mean.specs.Expressions.{Calls as SourceCalls, fitted}
 use Rattle.px_normal.specs.declared.ty.Ty.{Ty}
 use Rattle.px_normal.specs.declared.word.Operand.{Operand}
 use Rattle.px_normal.specs.declared.method.Tree.{Tree}

@@ -10,10 +10,10 @@ use Rattle.px_effects.specs.Act.{Act, does}
 use Rattle.px_effects.specs.Cells as cells
 use Rattle.px_effects.specs.Cells.{first_cells}
 use Rattle.px_effects.specs.Operations.{Acts}
-use Rattle.px_semantics.specs.Run.{Frame as SourceFrame, Here as SourceHere, with_slots}
-use Rattle.px_semantics.specs.Effects.{no_object, only_acts, put_field, store, print_line}
-use Rattle.px_semantics.specs.Expressions.{Calls as SourceCalls, this_value}
-use Rattle.px_semantics.specs.Statements.{goes}
+use Rattle.px_mean.specs.Run.{Frame as SourceFrame, Here as SourceHere, with_slots}
+use Rattle.px_mean.specs.Effects.{no_object, only_acts, put_field, store, print_line}
+use Rattle.px_mean.specs.Expressions.{Calls as SourceCalls, this_value}
+use Rattle.px_mean.specs.Statements.{goes}
 use Rattle.px_normal.specs.declared.ty.Ty.{Ty}
 use Rattle.px_normal.specs.declared.word.Operand.TheVariants.{Slot}
 use Rattle.px_normal.specs.declared.word.Word.{Word}

@@ -23,12 +23,12 @@ use Rattle.px_facts.specs.declared.checked.Named.TheVariants as named
 use Rattle.px_effects.specs.Run.{Ask, came_to}
 use Rattle.px_effects.specs.Cells.{first_cells}
 use Rattle.px_effects.specs.Cells as cells
-use Rattle.px_semantics.specs.Run.{Frame as SourceFrame, Here as SourceHere}
-use Rattle.px_semantics.specs.Facts.{type_at, named_at, default_of, fields_of, op_of, prefix_of, element_number}
-use Rattle.px_semantics.specs.Effects.{load, get_field}
-use Rattle.px_semantics.specs.Expressions.{Around, Calls as SourceCalls, Meant, literal, slot_value, this_value, name_value, member_value, called, made_object, made_array, prefixed, binary, expr_step, numbered, meant}
-use Rattle.px_semantics.specs.Typing.{IsVariable, IsMember, IsLibrary, IsTypedExpr, IsReceiver, AreArguments}
-use Rattle.px_semantics.specs.Typing as typing
+use Rattle.px_mean.specs.Run.{Frame as SourceFrame, Here as SourceHere}
+use Rattle.px_mean.specs.Facts.{type_at, named_at, default_of, fields_of, op_of, prefix_of, element_number}
+use Rattle.px_mean.specs.Effects.{load, get_field}
+use Rattle.px_mean.specs.Expressions.{Around, Calls as SourceCalls, Meant, literal, slot_value, this_value, name_value, member_value, called, made_object, made_array, prefixed, binary, expr_step, numbered, meant}
+use Rattle.px_mean.specs.Typing.{IsVariable, IsMember, IsLibrary, IsTypedExpr, IsReceiver, AreArguments}
+use Rattle.px_mean.specs.Typing as typing
 use Rattle.px_normal.specs.declared.word.Operand.TheVariants.{Slot}
 use Rattle.px_normal.specs.declared.node.Counter.TheVariants.{Begun, Completed}
 use Rattle.px_normal.specs.declared.code.Code.{Code}
@@ -42,7 +42,7 @@ use Rattle.px_lowering.specs.Types.{code_type}
 use Rattle.px_lowering.specs.Emit.{Lasted}
 use Rattle.px_lowering.specs.Expressions.{Low, valued, stands, operand_at, name_had, member_had, index_low, object_had, array_had, negated, number_in, number_of, literal_behind, prefix_low, two_low, binary_low, call_low, low, part_of}
 use Rattle.px_lowering.proofs.Forms.{low_number, low_text, low_true, low_false, low_null, low_this, low_name, low_group, low_field, low_index, low_call, low_new_object, low_new_array, low_prefix, low_binary}
-use Rattle.px_semantics.proofs.Forms.{meant_number, meant_text, meant_true, meant_false, meant_null, meant_this, meant_name, meant_group, meant_field, meant_index, meant_call, meant_new_object, meant_new_array, meant_prefix, meant_binary, meant_type}
+use Rattle.px_mean.proofs.Forms.{meant_number, meant_text, meant_true, meant_false, meant_null, meant_this, meant_name, meant_group, meant_field, meant_index, meant_call, meant_new_object, meant_new_array, meant_prefix, meant_binary, meant_type}
 use Rattle.px_preservation.proofs.Program.{SameProgram}
 use Rattle.px_preservation.proofs.Afters.{grown, after_none}
 use Rattle.px_preservation.proofs.Acts.{plain_get, plain_length, plain_load, plain_array, object_same}

@@ -12,8 +12,8 @@ use Rattle.px_effects.specs.Run.{Ask, came_to}
 use Rattle.px_effects.specs.Act.{Comes, Firsts, does}
 use Rattle.px_effects.specs.Cells.{first_cells}
 use Rattle.px_normal.specs.First.{fresh_of}
-use Rattle.px_semantics.specs.Run.{Frame as SourceFrame, Here as SourceHere}
-use Rattle.px_semantics.specs.Expressions.{Calls as SourceCalls, fit}
+use Rattle.px_mean.specs.Run.{Frame as SourceFrame, Here as SourceHere}
+use Rattle.px_mean.specs.Expressions.{Calls as SourceCalls, fit}
 use Rattle.px_normal.specs.declared.ty.Ty.{Ty}
 use Rattle.px_normal.specs.declared.ty.Ty.TheVariants as ty
 use Rattle.px_normal.specs.declared.word.Operand.TheVariants.{Slot, Literal}

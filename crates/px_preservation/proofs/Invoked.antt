@@ -19,11 +19,11 @@ use Rattle.px_effects.specs.Cells.{first_cells}
 use Rattle.px_effects.specs.Rows as rows
 use Rattle.px_effects.specs.Rows.{Statements, make_rows, changed}
 use Rattle.px_effects.specs.Operations.{operation, works}
-use Rattle.px_semantics.specs.Run.{Frame as SourceFrame, Here as SourceHere, gather}
-use Rattle.px_semantics.specs.Facts.{type_at, by_number, params_of}
-use Rattle.px_semantics.specs.Effects.{no_object, statement_in, statements_of, acts}
-use Rattle.px_semantics.specs.Operations.{query, update}
-use Rattle.px_semantics.specs.Expressions.{Calls as SourceCalls, Meant, this_value, fitted, receiver, result_value, call_method, invoke, called}
+use Rattle.px_mean.specs.Run.{Frame as SourceFrame, Here as SourceHere, gather}
+use Rattle.px_mean.specs.Facts.{type_at, by_number, params_of}
+use Rattle.px_mean.specs.Effects.{no_object, statement_in, statements_of, acts}
+use Rattle.px_mean.specs.Operations.{query, update}
+use Rattle.px_mean.specs.Expressions.{Calls as SourceCalls, Meant, this_value, fitted, receiver, result_value, call_method, invoke, called}
 use Rattle.px_normal.specs.declared.ty.Ty.{Ty}
 use Rattle.px_normal.specs.declared.word.Operand.{Operand}
 use Rattle.px_normal.specs.declared.word.Operand.TheVariants.{Slot}

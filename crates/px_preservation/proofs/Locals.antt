@@ -8,8 +8,8 @@ use Rattle.px_value.specs.Outcome.{◌>>=◌, pure}
 use Rattle.px_facts.specs.declared.checked.Checked.{Checked}
 use Rattle.px_effects.specs.Run.{Ask, came_to}
 use Rattle.px_effects.specs.Act.{Comes}
-use Rattle.px_semantics.specs.Run.{Frame as SourceFrame, Here as SourceHere, with_slots}
-use Rattle.px_semantics.specs.Expressions.{Calls as SourceCalls, slot_value, assign_slot}
+use Rattle.px_mean.specs.Run.{Frame as SourceFrame, Here as SourceHere, with_slots}
+use Rattle.px_mean.specs.Expressions.{Calls as SourceCalls, slot_value, assign_slot}
 use Rattle.px_normal.specs.declared.word.Operand.{Operand}
 use Rattle.px_normal.specs.declared.word.Operand.TheVariants.{Slot, Literal}
 use Rattle.px_normal.specs.declared.word.Word.TheVariants as w

@@ -5,8 +5,8 @@ use Rattle.px_value.specs.declared.value.Value.TheVariants.{Null}
 use Rattle.px_value.specs.Outcome.{Outcome, Gives, then_run, ◌>>=◌, on_shared, Flow, Goes, goes_on}
 use Rattle.px_facts.specs.declared.checked.Checked.{Checked}
 use Rattle.px_effects.specs.Run.{Ask}
-use Rattle.px_semantics.specs.Run.{Frame as SourceFrame, Here as SourceHere}
-use Rattle.px_semantics.specs.Expressions.{Calls as SourceCalls}
+use Rattle.px_mean.specs.Run.{Frame as SourceFrame, Here as SourceHere}
+use Rattle.px_mean.specs.Expressions.{Calls as SourceCalls}
 use Rattle.px_normal.specs.declared.ty.Ty.{Ty}
 use Rattle.px_normal.specs.declared.word.Operand.{Operand}
 use Rattle.px_normal.specs.declared.word.Operand.TheVariants.{Slot}

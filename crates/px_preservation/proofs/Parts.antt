@@ -5,15 +5,15 @@ use Rattle.px_tree.specs.declared.Expr.{Expr}
 use Rattle.px_facts.specs.declared.types.Ty.{Ty as Static}
 use Rattle.px_facts.specs.declared.checked.Checked.{Checked}
 use Rattle.px_effects.specs.Run.{Ask}
-use Rattle.px_semantics.specs.Facts.{type_at}
-use Rattle.px_semantics.specs.Expressions.{Calls as SourceCalls, Meant, fit, meant}
+use Rattle.px_mean.specs.Facts.{type_at}
+use Rattle.px_mean.specs.Expressions.{Calls as SourceCalls, Meant, fit, meant}
 use Rattle.px_normal.specs.declared.code.Code.{Code}
 use Rattle.px_normal.specs.CodeRun.{Calls}
 use Rattle.px_lowering.specs.declared.draft.Draft.{Draft}
 use Rattle.px_lowering.specs.Emit.{slot_of}
 use Rattle.px_lowering.specs.Expressions.{low, part_of, operand_at, fit_to, fitted_operand}
 use Rattle.px_lowering.specs.Statements.{unused as unused_low}
-use Rattle.px_semantics.proofs.Forms.{meant_type}
+use Rattle.px_mean.proofs.Forms.{meant_type}
 use Rattle.px_preservation.proofs.Operands.{IsOperand, IsSlotted, IsUnused, operand_is, slotted_is, unused_is}
 use Rattle.px_preservation.proofs.Fitted.{fits}
 use Rattle.px_preservation.proofs.Agree.{CallsMeet, IsLowered, Lowers, around}

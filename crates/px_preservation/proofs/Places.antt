@@ -10,12 +10,12 @@ use Rattle.px_facts.specs.declared.types.Ty.{Ty as Static}
 use Rattle.px_facts.specs.declared.checked.Checked.{Checked}
 use Rattle.px_facts.specs.declared.checked.Named.{Named}
 use Rattle.px_effects.specs.Run.{Ask}
-use Rattle.px_semantics.specs.Run.{Here as SourceHere}
-use Rattle.px_semantics.specs.Facts.{type_at, named_at}
-use Rattle.px_semantics.specs.Effects.{store}
-use Rattle.px_semantics.specs.Expressions.{Meant, Calls as SourceCalls, fit, put_name, put_member}
-use Rattle.px_semantics.specs.Typing as typing
-use Rattle.px_semantics.specs.Typing.{IsVariable, IsMember, IsTypedExpr}
+use Rattle.px_mean.specs.Run.{Here as SourceHere}
+use Rattle.px_mean.specs.Facts.{type_at, named_at}
+use Rattle.px_mean.specs.Effects.{store}
+use Rattle.px_mean.specs.Expressions.{Meant, Calls as SourceCalls, fit, put_name, put_member}
+use Rattle.px_mean.specs.Typing as typing
+use Rattle.px_mean.specs.Typing.{IsVariable, IsMember, IsTypedExpr}
 use Rattle.px_normal.specs.declared.node.Counter.TheVariants.{Completed}
 use Rattle.px_normal.specs.declared.code.Code.{Code}
 use Rattle.px_normal.specs.CodeRun.{Calls}
@@ -24,7 +24,7 @@ use Rattle.px_lowering.specs.Emit.{Operated}
 use Rattle.px_lowering.specs.Expressions.{part_of, operand_at, fitted_operand, put_form, put_low}
 use Rattle.px_lowering.specs.Expressions as lower
 use Rattle.px_preservation.proofs.Agree.{CallsMeet, Lowers}
-use Rattle.px_semantics.proofs.Forms.{meant_number, meant_text, meant_true, meant_false, meant_null, meant_this, meant_name, meant_group, meant_field, meant_index, meant_call, meant_new_object, meant_new_array, meant_prefix, meant_binary}
+use Rattle.px_mean.proofs.Forms.{meant_number, meant_text, meant_true, meant_false, meant_null, meant_this, meant_name, meant_group, meant_field, meant_index, meant_call, meant_new_object, meant_new_array, meant_prefix, meant_binary}
 use Rattle.px_preservation.proofs.Operands.{IsOperand}
 use Rattle.px_preservation.proofs.Afters.{grown}
 use Rattle.px_preservation.proofs.Assignments.{IsPut, own_field_put, field_put, element_put, two_put, nothing_put}

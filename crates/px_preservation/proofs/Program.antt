@@ -10,10 +10,10 @@ use Rattle.px_facts.specs.declared.operation.Operation.{Operation}
 use Rattle.px_facts.specs.declared.checked.ClassFact.{ClassFact}
 use Rattle.px_facts.specs.declared.checked.MethodFact.{MethodFact}
 use Rattle.px_facts.specs.declared.checked.Checked.{Checked}
-use Rattle.px_semantics.specs.Facts as source
-use Rattle.px_semantics.specs.Facts.{default_of, fields_of, by_number}
-use Rattle.px_semantics.specs.Effects.{statement_in, statements_of}
-use Rattle.px_semantics.specs.Program.{methods_of}
+use Rattle.px_mean.specs.Facts as source
+use Rattle.px_mean.specs.Facts.{default_of, fields_of, by_number}
+use Rattle.px_mean.specs.Effects.{statement_in, statements_of}
+use Rattle.px_mean.specs.Program.{methods_of}
 use Rattle.px_normal.specs.declared.node.Node.{Node}
 use Rattle.px_normal.specs.declared.method.Method.{Method as CodeMethod}
 use Rattle.px_normal.specs.declared.code.Code.{Code}

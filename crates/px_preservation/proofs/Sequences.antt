@@ -4,9 +4,9 @@ use Rattle.px_value.specs.declared.value.Value.{Value}
 use Rattle.px_value.specs.Outcome.{Outcome, then_run, ◌>>=◌, pure, Flow, Goes, Returns, goes_on}
 use Rattle.px_facts.specs.declared.checked.Checked.{Checked}
 use Rattle.px_effects.specs.Run.{Ask}
-use Rattle.px_semantics.specs.Run.{Frame as SourceFrame, Here as SourceHere}
-use Rattle.px_semantics.specs.Expressions.{Calls as SourceCalls}
-use Rattle.px_semantics.specs.Statements.{goes}
+use Rattle.px_mean.specs.Run.{Frame as SourceFrame, Here as SourceHere}
+use Rattle.px_mean.specs.Expressions.{Calls as SourceCalls}
+use Rattle.px_mean.specs.Statements.{goes}
 use Rattle.px_normal.specs.declared.method.Tree.{Tree}
 use Rattle.px_normal.specs.declared.code.Code.{Code}
 use Rattle.px_normal.specs.Run.{Frame, Here}

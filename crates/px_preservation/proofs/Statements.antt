@@ -14,13 +14,13 @@ use Rattle.px_facts.specs.declared.checked.Named.{Named}
 use Rattle.px_facts.specs.declared.checked.Named.TheVariants as named
 use Rattle.px_effects.specs.Run.{Ask}
 use Rattle.px_effects.specs.Cells.{comes}
-use Rattle.px_semantics.specs.Run.{Here as SourceHere}
-use Rattle.px_semantics.specs.Facts.{type_at, named_at, op_of}
-use Rattle.px_semantics.specs.Expressions.{Around, Meant, Calls as SourceCalls, fit}
-use Rattle.px_semantics.specs.Statements.{Does, done_by, goes, write_local, change_local, one}
-use Rattle.px_semantics.specs.Statements as source
-use Rattle.px_semantics.specs.Typing as typing
-use Rattle.px_semantics.specs.Typing.{IsTypedExpr, IsTypedStmt, AreTypedStmts}
+use Rattle.px_mean.specs.Run.{Here as SourceHere}
+use Rattle.px_mean.specs.Facts.{type_at, named_at, op_of}
+use Rattle.px_mean.specs.Expressions.{Around, Meant, Calls as SourceCalls, fit}
+use Rattle.px_mean.specs.Statements.{Does, done_by, goes, write_local, change_local, one}
+use Rattle.px_mean.specs.Statements as source
+use Rattle.px_mean.specs.Typing as typing
+use Rattle.px_mean.specs.Typing.{IsTypedExpr, IsTypedStmt, AreTypedStmts}
 use Rattle.px_normal.specs.declared.word.Word.TheVariants as w
 use Rattle.px_normal.specs.declared.node.Counter.{Counter}
 use Rattle.px_normal.specs.declared.node.Counter.TheVariants.{Begun, Completed}
@@ -34,7 +34,7 @@ use Rattle.px_lowering.specs.Statements.{Steps, lower_all, low_stmt, store, comp
 use Rattle.px_lowering.proofs.StmtForms.{low_block, low_empty, low_local, low_assign, low_compound, low_up, low_down, low_call, low_if, low_while, low_for, low_return, low_print}
 use Rattle.px_preservation.proofs.Meets.{meets_at}
 use Rattle.px_preservation.proofs.Agree.{Shares, CallsMeet, Lowers, IsDone, LowersStatement}
-use Rattle.px_semantics.proofs.Forms.{meant_type, done_block, done_empty, done_local, done_assign, done_compound, done_up, done_down, done_call, done_if, done_while, done_for, done_return, done_print}
+use Rattle.px_mean.proofs.Forms.{meant_type, done_block, done_empty, done_local, done_assign, done_compound, done_up, done_down, done_call, done_if, done_while, done_for, done_return, done_print}
 use Rattle.px_preservation.proofs.Operands.{IsOperand, unused_is}
 use Rattle.px_preservation.proofs.Runs.{run_do, run_one}
 use Rattle.px_preservation.proofs.Afters.{behind, grown}

@@ -9,9 +9,9 @@ use Rattle.px_tree.specs.declared.FieldDecl.{FieldDecl}
 use Rattle.px_facts.specs.declared.checked.Checked.{Checked}
 use Rattle.px_facts.specs.declared.checked.ClassFact.{ClassFact}
 use Rattle.px_effects.specs.Run.{Ask}
-use Rattle.px_semantics.specs.Program.{source_from}
-use Rattle.px_semantics.specs.Entry.{exec}
-use Rattle.px_semantics.specs.Typing.{IsTyped}
+use Rattle.px_mean.specs.Program.{source_from}
+use Rattle.px_mean.specs.Entry.{exec}
+use Rattle.px_mean.specs.Typing.{IsTyped}
 use Rattle.px_normal.specs.Run.{untraced}
 use Rattle.px_normal.specs.CodeRun.{code_run}
 use Rattle.px_lowering.specs.Programs.{lowered}

@@ -6,23 +6,23 @@ use Rattle.px_tree.specs.declared.Method.{Method}
 use Rattle.px_tree.specs.declared.Program.{Program}
 use Rattle.px_facts.specs.declared.checked.Facts.{Facts}
 use Rattle.px_facts.specs.declared.checked.MethodFact.{MethodFact}
-use Rattle.px_rules.specs.declared.node.Node.{Node}
-use Rattle.px_rules.specs.declared.classes.Classes.{Classes}
-use Rattle.px_rules.specs.Members.{classes_of}
-use Rattle.px_rules.specs.Programs.{end_token, declared_notes, class_names, main_notes, notes_of, first_breach_of}
-use Rattle.px_rules.specs.Names.{empty}
-use Rattle.px_rules.specs.Bodies.{firsts_from, home_of, all_found}
-use Rattle.px_rules.specs.Checked.{facts_in, facts_of, checked_of}
-use Rattle.px_semantics.specs.Facts.{by_number}
-use Rattle.px_semantics.specs.Program.{methods_of, source_from}
-use Rattle.px_semantics.specs.Typing.{IsTyped}
+use Rattle.px_types.specs.declared.node.Node.{Node}
+use Rattle.px_types.specs.declared.classes.Classes.{Classes}
+use Rattle.px_types.specs.Members.{classes_of}
+use Rattle.px_types.specs.Programs.{end_token, declared_notes, class_names, main_notes, notes_of, first_breach_of}
+use Rattle.px_types.specs.Names.{empty}
+use Rattle.px_types.specs.Bodies.{firsts_from, home_of, all_found}
+use Rattle.px_types.specs.Checked.{facts_in, facts_of, checked_of}
+use Rattle.px_mean.specs.Facts.{by_number}
+use Rattle.px_mean.specs.Program.{methods_of, source_from}
+use Rattle.px_mean.specs.Typing.{IsTyped}
 use Rattle.px_rows.specs.Tables.{Tables}
-use Rattle.px_semantics.specs.Asks.{by_tables}
-use Rattle.px_semantics.specs.Serial.{Call, serial, first_stand}
-use Rattle.px_semantics.specs.Typed.{are_kept}
-use Rattle.px_semantics.specs.TypedRuns.{OperationsFit, Passes, AreTypedCalls, IsTypedStand}
-use Rattle.px_semantics.proofs.TypedCalls.{serves_kept, first_stand_typed}
-use Rattle.px_semantics.proofs.TypedTables.{tables_answer_typed}
+use Rattle.px_mean.specs.Asks.{by_tables}
+use Rattle.px_mean.specs.Serial.{Call, serial, first_stand}
+use Rattle.px_mean.specs.Typed.{are_kept}
+use Rattle.px_mean.specs.TypedRuns.{OperationsFit, Passes, AreTypedCalls, IsTypedStand}
+use Rattle.px_mean.proofs.TypedCalls.{serves_kept, first_stand_typed}
+use Rattle.px_mean.proofs.TypedTables.{tables_answer_typed}
 use Rattle.px_uses.specs.Uses.{AreUsed}
 use Rattle.px_soundness.specs.Numbered.{AreClasses}
 use Rattle.px_soundness.specs.Laws.{widths_of}

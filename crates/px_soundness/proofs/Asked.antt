@@ -17,25 +17,25 @@ use Rattle.px_tree.specs.declared.Stmt.{Stmt}
 use Rattle.px_tree.specs.declared.Member.{Member}
 use Rattle.px_tree.specs.declared.Class.{Class}
 use Rattle.px_facts.specs.declared.operation.Operation.{Operation}
-use Rattle.px_rules.specs.declared.node.Node.{Node}
-use Rattle.px_rules.specs.declared.home.Home.{Home}
-use Rattle.px_rules.specs.declared.scope.Scope.{Scope}
-use Rattle.px_rules.specs.declared.database.Verb.{Verb}
-use Rattle.px_rules.specs.Database.{Written, Bare, Literal, Other, written, asked, fits_verb, if_fitting, operation_of, asked_operation, column_type}
-use Rattle.px_rules.specs.Known.{Known, known, all_nodes, argument_nodes, operation_in, database_node}
-use Rattle.px_rules.specs.Told.{Told, told, in_order}
-use Rattle.px_rules.specs.Slots.{first_scope}
-use Rattle.px_rules.specs.Bodies.{with_params, told_body, class_found, all_found, next_class}
-use Rattle.px_rules.specs.Sites.{if_any, operations_in}
-use Rattle.px_rules.proofs.KnownForms.{known_by_form, known_number, known_text, known_true, known_false, known_null, known_this, known_name, known_group, known_field, known_index, known_own_call, known_call, known_database_call, known_new, known_new_array, known_prefix, known_binary}
-use Rattle.px_rules.proofs.ToldForms.{told_block, told_empty, told_local, told_assign, told_compound, told_up, told_down, told_call, told_if, told_while, told_for, told_return, told_print}
+use Rattle.px_types.specs.declared.node.Node.{Node}
+use Rattle.px_types.specs.declared.home.Home.{Home}
+use Rattle.px_types.specs.declared.scope.Scope.{Scope}
+use Rattle.px_types.specs.declared.database.Verb.{Verb}
+use Rattle.px_types.specs.Database.{Written, Bare, Literal, Other, written, asked, fits_verb, if_fitting, operation_of, asked_operation, column_type}
+use Rattle.px_types.specs.Known.{Known, known, all_nodes, argument_nodes, operation_in, database_node}
+use Rattle.px_types.specs.Told.{Told, told, in_order}
+use Rattle.px_types.specs.Slots.{first_scope}
+use Rattle.px_types.specs.Bodies.{with_params, told_body, class_found, all_found, next_class}
+use Rattle.px_types.specs.Sites.{if_any, operations_in}
+use Rattle.px_types.proofs.KnownForms.{known_by_form, known_number, known_text, known_true, known_false, known_null, known_this, known_name, known_group, known_field, known_index, known_own_call, known_call, known_database_call, known_new, known_new_array, known_prefix, known_binary}
+use Rattle.px_types.proofs.ToldForms.{told_block, told_empty, told_local, told_assign, told_compound, told_up, told_down, told_call, told_if, told_while, told_for, told_return, told_print}
 use Rattle.px_sql.specs.Words.{columns_of, table_columns, has_place, are_columns, is_over, words_of, max_listed}
 use Rattle.px_sql.specs.Parameters as sql
 use Rattle.px_sql.specs.Reading.{statement_of, if_spelled, statement_if, is_trimmed, pieces_of, likely}
 use Rattle.px_sql.specs.Spelling.{fit}
 use Rattle.px_sql.specs.Tables.{is_small}
-use Rattle.px_semantics.specs.Facts.{by_number}
-use Rattle.px_semantics.specs.TypedRuns.{width_at, AllBelow, FitsTables}
+use Rattle.px_mean.specs.Facts.{by_number}
+use Rattle.px_mean.specs.TypedRuns.{width_at, AllBelow, FitsTables}
 use Rattle.px_soundness.specs.Numbered.{IsExpr, AreExprs, IsStmt, AreStmts, AreMembers, AreClasses}
 use Rattle.px_soundness.specs.Laws.{width_of, widths_of}
 use Rattle.px_soundness.proofs.Clean.{and_left, and_right, some_is}

@@ -24,33 +24,33 @@ use Rattle.px_facts.specs.declared.checked.Named.TheVariants as named
 use Rattle.px_facts.specs.declared.checked.Facts.{Facts}
 use Rattle.px_facts.specs.declared.operation.Operation.{Operation}
 use Rattle.px_facts.specs.Types.{is_unknown, is_array, fits, element_type, array_of, indexed}
-use Rattle.px_rules.specs.declared.table.Table.{Table}
-use Rattle.px_rules.specs.declared.node.Node.{Node}
-use Rattle.px_rules.specs.declared.classes.MethodType.{MethodType}
-use Rattle.px_rules.specs.declared.classes.Classes.{Classes}
-use Rattle.px_rules.specs.declared.locals.Locals.{Locals}
-use Rattle.px_rules.specs.declared.scope.Scope.{Scope}
-use Rattle.px_rules.specs.declared.database.Verb.{Verb}
-use Rattle.px_rules.specs.declared.database.Verb.TheVariants as verb
-use Rattle.px_rules.specs.Breaches.{breach_if, New}
-use Rattle.px_rules.specs.Names.{find}
-use Rattle.px_rules.specs.Literals.{literal_type}
-use Rattle.px_rules.specs.Operators.{is_minus, prefix_fits, prefix_type, group_of, operands_fit, group_type, compares_texts}
-use Rattle.px_rules.specs.Members.{base_type, class_type, no_class, names_no_class, field_of, method_of}
-use Rattle.px_rules.specs.Scopes.{no_locals, variable_type}
-use Rattle.px_rules.specs.Facts.{typed_only, variable_fact, field_fact, method_fact, new_of, new_fact, database_fact, verb_fact, field_at, field_place, method_at, method_place, numbered_method}
-use Rattle.px_rules.specs.Database.{Written, Bare, Literal, Other, written, asked, literal_in, operation_of, asked_operation, each_fits, all_fit, text_notes, fits_verb, if_fitting, column_type, verb_type}
-use Rattle.px_rules.specs.Expressions.{Typed, typed, of_type, number, text, misfit, variable, bracketed, field, index, argument_fits, arguments, wanted, has_count, call, types_of, database_notes, database_call, new_object, new_array, prefixed, binary, method_notes, result_of, found_type}
-use Rattle.px_rules.specs.Known.{Known, known, fact_only, leaf, all_nodes, argument_nodes, text_known, name_known, group_known, field_known, index_known, own_call, call_known, operation_in, array_known, operator_known}
-use Rattle.px_rules.proofs.Forms.{typed_by_form, typed_written, typed_number, typed_text, typed_true, typed_false, typed_null, typed_this, typed_name, typed_group, typed_field, typed_index, typed_own_call, typed_call, typed_database_call, typed_new, typed_new_array, typed_prefix, typed_binary, text_is_read, no_text}
-use Rattle.px_rules.proofs.KnownForms.{known_by_form, known_number, known_text, known_true, known_false, known_null, known_this, known_name, known_group, known_field, known_index, known_own_call, known_call, database_call as database_known, known_database_call, known_new, known_new_array, known_prefix, known_binary}
-use Rattle.px_rules.specs.declared.home.Home.{Home}
-use Rattle.px_rules.specs.declared.context.Context.{Context}
+use Rattle.px_types.specs.declared.table.Table.{Table}
+use Rattle.px_types.specs.declared.node.Node.{Node}
+use Rattle.px_types.specs.declared.classes.MethodType.{MethodType}
+use Rattle.px_types.specs.declared.classes.Classes.{Classes}
+use Rattle.px_types.specs.declared.locals.Locals.{Locals}
+use Rattle.px_types.specs.declared.scope.Scope.{Scope}
+use Rattle.px_types.specs.declared.database.Verb.{Verb}
+use Rattle.px_types.specs.declared.database.Verb.TheVariants as verb
+use Rattle.px_types.specs.Breaches.{breach_if, New}
+use Rattle.px_types.specs.Names.{find}
+use Rattle.px_types.specs.Literals.{literal_type}
+use Rattle.px_types.specs.Operators.{is_minus, prefix_fits, prefix_type, group_of, operands_fit, group_type, compares_texts}
+use Rattle.px_types.specs.Members.{base_type, class_type, no_class, names_no_class, field_of, method_of}
+use Rattle.px_types.specs.Scopes.{no_locals, variable_type}
+use Rattle.px_types.specs.Facts.{typed_only, variable_fact, field_fact, method_fact, new_of, new_fact, database_fact, verb_fact, field_at, field_place, method_at, method_place, numbered_method}
+use Rattle.px_types.specs.Database.{Written, Bare, Literal, Other, written, asked, literal_in, operation_of, asked_operation, each_fits, all_fit, text_notes, fits_verb, if_fitting, column_type, verb_type}
+use Rattle.px_types.specs.Expressions.{Typed, typed, of_type, number, text, misfit, variable, bracketed, field, index, argument_fits, arguments, wanted, has_count, call, types_of, database_notes, database_call, new_object, new_array, prefixed, binary, method_notes, result_of, found_type}
+use Rattle.px_types.specs.Known.{Known, known, fact_only, leaf, all_nodes, argument_nodes, text_known, name_known, group_known, field_known, index_known, own_call, call_known, operation_in, array_known, operator_known}
+use Rattle.px_types.proofs.Forms.{typed_by_form, typed_written, typed_number, typed_text, typed_true, typed_false, typed_null, typed_this, typed_name, typed_group, typed_field, typed_index, typed_own_call, typed_call, typed_database_call, typed_new, typed_new_array, typed_prefix, typed_binary, text_is_read, no_text}
+use Rattle.px_types.proofs.KnownForms.{known_by_form, known_number, known_text, known_true, known_false, known_null, known_this, known_name, known_group, known_field, known_index, known_own_call, known_call, database_call as database_known, known_database_call, known_new, known_new_array, known_prefix, known_binary}
+use Rattle.px_types.specs.declared.home.Home.{Home}
+use Rattle.px_types.specs.declared.context.Context.{Context}
 use Rattle.px_sql.specs.Parameters as sql
 use Rattle.px_sql.specs.Reading.{statement_of}
-use Rattle.px_semantics.specs.Facts.{type_at, named_at, op_of, prefix_of}
-use Rattle.px_semantics.specs.Typing as t
-use Rattle.px_semantics.specs.Typing.{Fits, IsVariable, IsMember, IsLibrary, IsSendable, AreSendable, IsTypedExpr, IsReceiver, AreArguments}
+use Rattle.px_mean.specs.Facts.{type_at, named_at, op_of, prefix_of}
+use Rattle.px_mean.specs.Typing as t
+use Rattle.px_mean.specs.Typing.{Fits, IsVariable, IsMember, IsLibrary, IsSendable, AreSendable, IsTypedExpr, IsReceiver, AreArguments}
 use Rattle.px_uses.specs.Uses.{joins, AsksRows, IsUsed}
 use Rattle.px_uses.proofs.Made.{method_asks, update_asks, library_asks, query_asks, AllUsed, used_number, used_text, used_truth, used_falsehood, used_null, used_this, used_name, used_group, used_field, used_index, used_call, used_new_object, used_new_array, used_prefix, used_binary}
 use Rattle.px_soundness.specs.Numbered.{IsExpr, AreExprs, IsElement, IsBinary, IsPrefix}

@@ -9,22 +9,22 @@ use Rattle.px_facts.specs.declared.types.Ty.TheVariants as ty
 use Rattle.px_facts.specs.declared.checked.MethodFact.{MethodFact}
 use Rattle.px_facts.specs.declared.checked.Facts.{Facts}
 use Rattle.px_facts.specs.Types.{is_unknown, is_void}
-use Rattle.px_rules.specs.declared.table.Table.{Table}
-use Rattle.px_rules.specs.declared.node.Node.{Node}
-use Rattle.px_rules.specs.declared.classes.Classes.{Classes}
-use Rattle.px_rules.specs.declared.home.Home.{Home}
-use Rattle.px_rules.specs.declared.locals.Locals.{Locals}
-use Rattle.px_rules.specs.declared.scope.Scope.{Scope}
-use Rattle.px_rules.specs.Breaches.{breach_if}
-use Rattle.px_rules.specs.Names.{has_name}
-use Rattle.px_rules.specs.Members.{param_type, result_type, names_no_class}
-use Rattle.px_rules.specs.Scopes.{no_locals, with_local, local_notes}
-use Rattle.px_rules.specs.Slots.{first_scope, with_slot}
-use Rattle.px_rules.specs.Methods as rules
-use Rattle.px_rules.specs.Methods.{result_notes, param_notes, params_of, judged_body, ends, too_long, method_notes}
-use Rattle.px_rules.specs.Bodies as bodies
-use Rattle.px_rules.specs.Bodies.{told_body, method_known}
-use Rattle.px_semantics.specs.Typing.{IsTypedMethod}
+use Rattle.px_types.specs.declared.table.Table.{Table}
+use Rattle.px_types.specs.declared.node.Node.{Node}
+use Rattle.px_types.specs.declared.classes.Classes.{Classes}
+use Rattle.px_types.specs.declared.home.Home.{Home}
+use Rattle.px_types.specs.declared.locals.Locals.{Locals}
+use Rattle.px_types.specs.declared.scope.Scope.{Scope}
+use Rattle.px_types.specs.Breaches.{breach_if}
+use Rattle.px_types.specs.Names.{has_name}
+use Rattle.px_types.specs.Members.{param_type, result_type, names_no_class}
+use Rattle.px_types.specs.Scopes.{no_locals, with_local, local_notes}
+use Rattle.px_types.specs.Slots.{first_scope, with_slot}
+use Rattle.px_types.specs.Methods as rules
+use Rattle.px_types.specs.Methods.{result_notes, param_notes, params_of, judged_body, ends, too_long, method_notes}
+use Rattle.px_types.specs.Bodies as bodies
+use Rattle.px_types.specs.Bodies.{told_body, method_known}
+use Rattle.px_mean.specs.Typing.{IsTypedMethod}
 use Rattle.px_uses.specs.Uses.{AreUsed}
 use Rattle.px_soundness.specs.Numbered.{IsStmt, AreParams, IsResult}
 use Rattle.px_soundness.proofs.Clean.{Clean, clean_left, clean_right, not_broken}

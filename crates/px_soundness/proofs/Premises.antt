@@ -10,24 +10,24 @@ use Rattle.px_facts.specs.declared.checked.Named.TheVariants as named
 use Rattle.px_facts.specs.declared.checked.MethodFact.{MethodFact}
 use Rattle.px_facts.specs.declared.checked.Facts.{Facts}
 use Rattle.px_facts.specs.Types.{is_unknown}
-use Rattle.px_rules.specs.declared.classes.FieldType.{FieldType}
-use Rattle.px_rules.specs.declared.classes.MethodType.{MethodType}
-use Rattle.px_rules.specs.declared.classes.Members.{Members}
-use Rattle.px_rules.specs.declared.classes.Classes.{Classes}
-use Rattle.px_rules.specs.declared.context.Context.{Context}
-use Rattle.px_rules.specs.declared.home.Home.{Home}
-use Rattle.px_rules.specs.declared.locals.Locals.{Locals}
-use Rattle.px_rules.specs.declared.scope.Scope.{Scope}
-use Rattle.px_rules.specs.Names.{place_of, value_at, find}
-use Rattle.px_rules.specs.Members.{field_of, method_of, hidden, text_members, array_members, rows_members, length_method, equals_method, next_method, column_method, length_field}
-use Rattle.px_rules.specs.Scopes.{variable_type}
-use Rattle.px_rules.specs.Expressions.{found_type, has_count, no_member, field_notes, method_notes}
-use Rattle.px_rules.specs.Facts.{field_place, field_at, field_fact, variable_fact, method_place, method_at, method_in, numbered_method, rows_method, text_method, local_or}
-use Rattle.px_rules.specs.declared.scope.Slot.{Slot}
+use Rattle.px_types.specs.declared.classes.FieldType.{FieldType}
+use Rattle.px_types.specs.declared.classes.MethodType.{MethodType}
+use Rattle.px_types.specs.declared.classes.Members.{Members}
+use Rattle.px_types.specs.declared.classes.Classes.{Classes}
+use Rattle.px_types.specs.declared.context.Context.{Context}
+use Rattle.px_types.specs.declared.home.Home.{Home}
+use Rattle.px_types.specs.declared.locals.Locals.{Locals}
+use Rattle.px_types.specs.declared.scope.Scope.{Scope}
+use Rattle.px_types.specs.Names.{place_of, value_at, find}
+use Rattle.px_types.specs.Members.{field_of, method_of, hidden, text_members, array_members, rows_members, length_method, equals_method, next_method, column_method, length_field}
+use Rattle.px_types.specs.Scopes.{variable_type}
+use Rattle.px_types.specs.Expressions.{found_type, has_count, no_member, field_notes, method_notes}
+use Rattle.px_types.specs.Facts.{field_place, field_at, field_fact, variable_fact, method_place, method_at, method_in, numbered_method, rows_method, text_method, local_or}
+use Rattle.px_types.specs.declared.scope.Slot.{Slot}
 use Rattle.px_facts.specs.declared.checked.Fact.{Fact}
-use Rattle.px_rules.specs.Slots.{slot_of}
-use Rattle.px_semantics.specs.Facts.{by_number, fields_of}
-use Rattle.px_semantics.specs.Typing.{IsVariable, IsMember, IsLibrary}
+use Rattle.px_types.specs.Slots.{slot_of}
+use Rattle.px_mean.specs.Facts.{by_number, fields_of}
+use Rattle.px_mean.specs.Typing.{IsVariable, IsMember, IsLibrary}
 use Rattle.px_soundness.proofs.Clean.{Clean, clean_right, kept}
 use Rattle.px_soundness.proofs.Standing.{IsFixed}
 

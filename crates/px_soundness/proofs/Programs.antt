@@ -21,29 +21,29 @@ use Rattle.px_facts.specs.declared.checked.Entry.{Entry}
 use Rattle.px_facts.specs.declared.checked.Facts.{Facts}
 use Rattle.px_facts.specs.Types.{is_unknown, is_printable}
 use Rattle.px_facts.specs.declared.checked.Main.{Main}
-use Rattle.px_rules.specs.declared.table.Table.{Table}
-use Rattle.px_rules.specs.declared.node.Node.{Node}
-use Rattle.px_rules.specs.declared.classes.FieldType.{FieldType}
-use Rattle.px_rules.specs.declared.classes.MethodType.{MethodType}
-use Rattle.px_rules.specs.declared.classes.Members.{Members}
-use Rattle.px_rules.specs.declared.classes.Classes.{Classes}
-use Rattle.px_rules.specs.declared.home.Home.{Home}
-use Rattle.px_rules.specs.Breaches.{breach_if}
-use Rattle.px_rules.specs.Names.{has_name, reserves, place_of, value_at, find}
-use Rattle.px_rules.specs.Members.{param_type, result_type, no_members, field_type, method_type, with_member, class_members, field_of, method_of}
-use Rattle.px_rules.specs.Scopes.{no_locals}
-use Rattle.px_rules.specs.Methods.{result_notes, param_notes, method_notes, is_entry_param, is_entry_result, is_public, entry_notes}
-use Rattle.px_rules.specs.Programs.{field_names, members_notes, all_members, class_bodies, bodies, entries, main_notes, max_fields}
-use Rattle.px_rules.specs.Bodies.{firsts_from, told_body, method_known, class_found, all_found, next_class}
-use Rattle.px_rules.specs.Entries.{value_type, gives_type, param_value, entry_of, entry_if, entries_from, first_method, main_from}
-use Rattle.px_semantics.specs.Facts.{by_number, fields_in}
-use Rattle.px_semantics.specs.Program.{methods_in, methods_of}
-use Rattle.px_semantics.specs.Typing.{IsTypedEntry, inner_type, given_type}
+use Rattle.px_types.specs.declared.table.Table.{Table}
+use Rattle.px_types.specs.declared.node.Node.{Node}
+use Rattle.px_types.specs.declared.classes.FieldType.{FieldType}
+use Rattle.px_types.specs.declared.classes.MethodType.{MethodType}
+use Rattle.px_types.specs.declared.classes.Members.{Members}
+use Rattle.px_types.specs.declared.classes.Classes.{Classes}
+use Rattle.px_types.specs.declared.home.Home.{Home}
+use Rattle.px_types.specs.Breaches.{breach_if}
+use Rattle.px_types.specs.Names.{has_name, reserves, place_of, value_at, find}
+use Rattle.px_types.specs.Members.{param_type, result_type, no_members, field_type, method_type, with_member, class_members, field_of, method_of}
+use Rattle.px_types.specs.Scopes.{no_locals}
+use Rattle.px_types.specs.Methods.{result_notes, param_notes, method_notes, is_entry_param, is_entry_result, is_public, entry_notes}
+use Rattle.px_types.specs.Programs.{field_names, members_notes, all_members, class_bodies, bodies, entries, main_notes, max_fields}
+use Rattle.px_types.specs.Bodies.{firsts_from, told_body, method_known, class_found, all_found, next_class}
+use Rattle.px_types.specs.Entries.{value_type, gives_type, param_value, entry_of, entry_if, entries_from, first_method, main_from}
+use Rattle.px_mean.specs.Facts.{by_number, fields_in}
+use Rattle.px_mean.specs.Program.{methods_in, methods_of}
+use Rattle.px_mean.specs.Typing.{IsTypedEntry, inner_type, given_type}
 use Rattle.px_soundness.specs.Numbered.{AreMembers, AreClasses}
 use Rattle.px_soundness.proofs.Clean.{Clean, clean_left, clean_right, not_broken, and_left, and_right, some_is}
 use Rattle.px_soundness.proofs.Standing.{Rest, first_in_drop, rest_in_drop, add_one, regroup}
 use Rattle.px_soundness.proofs.Premises.{AllKnown, FieldStands, MethodStands, MembersStand}
-use Rattle.px_rules.specs.Checked.{type_in, class_known}
+use Rattle.px_types.specs.Checked.{type_in, class_known}
 use Rattle.px_soundness.proofs.Scopes.{get_before, length_push, declare_fresh}
 use Rattle.px_soundness.proofs.Statements.{type_known}
 use Rattle.px_soundness.proofs.Methods.{IsJudged, result_known, params_known, method_typed}

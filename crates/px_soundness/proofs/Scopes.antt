@@ -15,21 +15,21 @@ use Rattle.px_facts.specs.declared.checked.Named.{Named}
 use Rattle.px_facts.specs.declared.checked.Facts.{Facts}
 use Rattle.px_facts.specs.Types.{is_unknown}
 use Rattle.px_facts.specs.declared.checked.Fact.{Fact}
-use Rattle.px_rules.specs.declared.table.Table.{Table}
-use Rattle.px_rules.specs.declared.classes.FieldType.{FieldType}
-use Rattle.px_rules.specs.declared.classes.Classes.{Classes}
-use Rattle.px_rules.specs.declared.locals.Locals.{Locals}
-use Rattle.px_rules.specs.declared.scope.Slot.{Slot}
-use Rattle.px_rules.specs.declared.scope.Scope.{Scope}
-use Rattle.px_rules.specs.Names.{place_of, value_at, has_name, declare}
-use Rattle.px_rules.specs.Members.{field_of}
-use Rattle.px_rules.specs.Scopes.{with_local, left, usable_type, local_type, own_field, shadowed, variable_type}
-use Rattle.px_rules.specs.Slots.{with_slot, next_slot, slot_of, closed}
-use Rattle.px_rules.specs.Expressions.{found_type}
-use Rattle.px_rules.specs.Facts.{local_fact, field_fact, field_at, local_or, variable_fact}
-use Rattle.px_rules.specs.declared.home.Home.{Home}
-use Rattle.px_rules.specs.declared.context.Context.{Context}
-use Rattle.px_semantics.specs.Typing.{IsVariable}
+use Rattle.px_types.specs.declared.table.Table.{Table}
+use Rattle.px_types.specs.declared.classes.FieldType.{FieldType}
+use Rattle.px_types.specs.declared.classes.Classes.{Classes}
+use Rattle.px_types.specs.declared.locals.Locals.{Locals}
+use Rattle.px_types.specs.declared.scope.Slot.{Slot}
+use Rattle.px_types.specs.declared.scope.Scope.{Scope}
+use Rattle.px_types.specs.Names.{place_of, value_at, has_name, declare}
+use Rattle.px_types.specs.Members.{field_of}
+use Rattle.px_types.specs.Scopes.{with_local, left, usable_type, local_type, own_field, shadowed, variable_type}
+use Rattle.px_types.specs.Slots.{with_slot, next_slot, slot_of, closed}
+use Rattle.px_types.specs.Expressions.{found_type}
+use Rattle.px_types.specs.Facts.{local_fact, field_fact, field_at, local_or, variable_fact}
+use Rattle.px_types.specs.declared.home.Home.{Home}
+use Rattle.px_types.specs.declared.context.Context.{Context}
+use Rattle.px_mean.specs.Typing.{IsVariable}
 use Rattle.px_soundness.proofs.Premises.{MembersStand, home as home_in, context as context_in, VariableStands, Sees}
 use Rattle.px_soundness.proofs.Clean.{some_is}
 

@@ -6,10 +6,10 @@ use Rattle.px_facts.specs.declared.checked.Named.TheVariants as named
 use Rattle.px_facts.specs.declared.checked.Fact.{Fact}
 use Rattle.px_facts.specs.declared.checked.Facts.{Facts}
 use Rattle.px_facts.specs.declared.operation.Operation.{Operation}
-use Rattle.px_rules.specs.declared.node.Node.{Node}
-use Rattle.px_rules.specs.Known.{fact_only}
-use Rattle.px_rules.specs.Sites.{with_numbers, call_after, site_after, sited, operations_in}
-use Rattle.px_semantics.specs.Facts.{type_in, type_at, named_in, named_at, by_number}
+use Rattle.px_types.specs.declared.node.Node.{Node}
+use Rattle.px_types.specs.Known.{fact_only}
+use Rattle.px_types.specs.Sites.{with_numbers, call_after, site_after, sited, operations_in}
+use Rattle.px_mean.specs.Facts.{type_in, type_at, named_in, named_at, by_number}
 
 -- the rest of a list from a place on
 pub first_in_drop : {A : Type 0} (xs ys : List A) (n : ℕ) (y : A) → drop n xs ≡ y ∷ ys → slice_get xs n ≡ Some y

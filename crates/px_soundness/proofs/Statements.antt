@@ -18,32 +18,32 @@ use Rattle.px_facts.specs.declared.types.Ty.{Ty}
 use Rattle.px_facts.specs.declared.types.Ty.TheVariants as ty
 use Rattle.px_facts.specs.declared.checked.Facts.{Facts}
 use Rattle.px_facts.specs.Types.{is_unknown, is_void, is_number, is_array, is_printable, fits, array_of}
-use Rattle.px_rules.specs.declared.table.Table.{Table}
-use Rattle.px_rules.specs.declared.node.Node.{Node}
-use Rattle.px_rules.specs.declared.classes.Classes.{Classes}
-use Rattle.px_rules.specs.declared.locals.Locals.{Locals}
-use Rattle.px_rules.specs.declared.scope.Slot.{Slot}
-use Rattle.px_rules.specs.declared.scope.Scope.{Scope}
-use Rattle.px_rules.specs.Breaches.{breach_if}
-use Rattle.px_rules.specs.Names.{find, has_name}
-use Rattle.px_rules.specs.Operators.{group_of, compound_fits}
-use Rattle.px_rules.specs.Members.{class_type, base_type, type_of, names_no_class}
-use Rattle.px_rules.specs.Scopes.{with_local, left, local_notes, local_type, or_unknown}
-use Rattle.px_rules.specs.Slots.{slot_of}
-use Rattle.px_rules.specs.Facts.{no_fact, local_fact, changed_fact}
-use Rattle.px_rules.specs.Expressions.{Typed, typed, misfit, field}
-use Rattle.px_rules.specs.Statements as judging
-use Rattle.px_rules.specs.Statements.{Judged, JudgesStmt, judged, judged_form, behind, ended, unreached, value_notes, local, assigned_field, place_of_form, assigned_place, assign, compound, step, condition, print, return_notes, returned, branches, otherwise, completing, for_loop, block, no_local, unknown_if}
-use Rattle.px_rules.specs.Known.{known, fact_only, all_nodes}
-use Rattle.px_rules.specs.Told as telling
-use Rattle.px_rules.specs.Told.{Told, Tells, told, in_order, block_told, local_told, assign_told, change_told, value_told, return_told, if_told, while_told, for_told}
-use Rattle.px_rules.proofs.Forms.{typed_by_form, typed_field}
-use Rattle.px_rules.proofs.StatementForms.{judged_by_form, judged_block, judged_empty, judged_local, judged_assign, judged_compound, judged_up, judged_down, judged_call, judged_if, judged_while, judged_for, judged_return, judged_print}
-use Rattle.px_rules.proofs.ToldForms.{told_block, told_empty, told_local, told_assign, told_compound, told_up, told_down, told_call, told_if, told_while, told_for, told_return, told_print}
-use Rattle.px_rules.specs.declared.home.Home.{Home}
-use Rattle.px_rules.specs.declared.context.Context.{Context}
-use Rattle.px_semantics.specs.Facts.{type_at, op_of}
-use Rattle.px_semantics.specs.Typing.{Fits, Promotes, GivesType, IsTypedStmt, AreTypedStmts, WritesLocal}
+use Rattle.px_types.specs.declared.table.Table.{Table}
+use Rattle.px_types.specs.declared.node.Node.{Node}
+use Rattle.px_types.specs.declared.classes.Classes.{Classes}
+use Rattle.px_types.specs.declared.locals.Locals.{Locals}
+use Rattle.px_types.specs.declared.scope.Slot.{Slot}
+use Rattle.px_types.specs.declared.scope.Scope.{Scope}
+use Rattle.px_types.specs.Breaches.{breach_if}
+use Rattle.px_types.specs.Names.{find, has_name}
+use Rattle.px_types.specs.Operators.{group_of, compound_fits}
+use Rattle.px_types.specs.Members.{class_type, base_type, type_of, names_no_class}
+use Rattle.px_types.specs.Scopes.{with_local, left, local_notes, local_type, or_unknown}
+use Rattle.px_types.specs.Slots.{slot_of}
+use Rattle.px_types.specs.Facts.{no_fact, local_fact, changed_fact}
+use Rattle.px_types.specs.Expressions.{Typed, typed, misfit, field}
+use Rattle.px_types.specs.Statements as judging
+use Rattle.px_types.specs.Statements.{Judged, JudgesStmt, judged, judged_form, behind, ended, unreached, value_notes, local, assigned_field, place_of_form, assigned_place, assign, compound, step, condition, print, return_notes, returned, branches, otherwise, completing, for_loop, block, no_local, unknown_if}
+use Rattle.px_types.specs.Known.{known, fact_only, all_nodes}
+use Rattle.px_types.specs.Told as telling
+use Rattle.px_types.specs.Told.{Told, Tells, told, in_order, block_told, local_told, assign_told, change_told, value_told, return_told, if_told, while_told, for_told}
+use Rattle.px_types.proofs.Forms.{typed_by_form, typed_field}
+use Rattle.px_types.proofs.StatementForms.{judged_by_form, judged_block, judged_empty, judged_local, judged_assign, judged_compound, judged_up, judged_down, judged_call, judged_if, judged_while, judged_for, judged_return, judged_print}
+use Rattle.px_types.proofs.ToldForms.{told_block, told_empty, told_local, told_assign, told_compound, told_up, told_down, told_call, told_if, told_while, told_for, told_return, told_print}
+use Rattle.px_types.specs.declared.home.Home.{Home}
+use Rattle.px_types.specs.declared.context.Context.{Context}
+use Rattle.px_mean.specs.Facts.{type_at, op_of}
+use Rattle.px_mean.specs.Typing.{Fits, Promotes, GivesType, IsTypedStmt, AreTypedStmts, WritesLocal}
 use Rattle.px_uses.specs.Uses.{joins, AreUsed}
 use Rattle.px_uses.proofs.Made.{AreAllUsed, used_block, used_empty, used_local, used_assign, used_compound, used_up, used_down, used_call_statement, used_if, used_while, used_for, used_leave, used_give, used_print}
 use Rattle.px_soundness.specs.Numbered.{IsTypeName, IsExpr, IsStmt, AreStmts}

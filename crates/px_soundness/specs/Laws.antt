@@ -5,17 +5,17 @@ use Rattle.px_value.specs.declared.schema.Table.{Table}
 use Rattle.px_tree.specs.declared.Program.{Program}
 use Rattle.px_tree.specs.declared.Method.{Method}
 use Rattle.px_facts.specs.declared.checked.MethodFact.{MethodFact}
-use Rattle.px_grammar.specs.Programs.{IsProgram}
-use Rattle.px_rules.specs.Programs.{first_breach_of}
-use Rattle.px_rules.specs.Checked.{facts_of, checked_of}
+use Rattle.px_parse.specs.Programs.{IsProgram}
+use Rattle.px_types.specs.Programs.{first_breach_of}
+use Rattle.px_types.specs.Checked.{facts_of, checked_of}
 use Rattle.px_rows.specs.Tables.{Tables}
-use Rattle.px_semantics.specs.Asks.{by_tables}
-use Rattle.px_semantics.specs.Facts.{by_number}
-use Rattle.px_semantics.specs.Program.{methods_of, source_from}
-use Rattle.px_semantics.specs.Serial.{Call, serial}
-use Rattle.px_semantics.specs.Typed.{are_kept}
-use Rattle.px_semantics.specs.Typing.{IsTyped}
-use Rattle.px_semantics.specs.TypedRuns.{OperationsFit, Passes, AreTypedCalls, IsTypedStand}
+use Rattle.px_mean.specs.Asks.{by_tables}
+use Rattle.px_mean.specs.Facts.{by_number}
+use Rattle.px_mean.specs.Program.{methods_of, source_from}
+use Rattle.px_mean.specs.Serial.{Call, serial}
+use Rattle.px_mean.specs.Typed.{are_kept}
+use Rattle.px_mean.specs.Typing.{IsTyped}
+use Rattle.px_mean.specs.TypedRuns.{OperationsFit, Passes, AreTypedCalls, IsTypedStand}
 use Rattle.px_uses.specs.Uses.{AreUsed}
 
 -- a text's program, without a breach of the rules over some tables

@@ -7,7 +7,7 @@ mod prefixes;
 mod printed;
 mod trees;
 
-use px_grammar::{ParseError, parse};
+use px_parse::{ParseError, parse};
 use std::alloc::{AllocError, Global};
 
 // The line at which `parse` refuses a text; none where it finds a program.

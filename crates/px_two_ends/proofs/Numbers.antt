@@ -2,9 +2,9 @@
 use Rattle.std.proofs.Common.{◌≡◌, ℕ, List, Option, Some, None, option_map, refl, sym, subst}
 use Rattle.px_value.specs.declared.schema.Schema.{Schema}
 use Rattle.px_tree.specs.declared.Program.{Program}
-use Rattle.px_grammar.specs.Programs.{IsProgram}
-use Rattle.px_rules.specs.Checked.{fault_at, fault_of, checked_of}
-use Rattle.px_rules.specs.Programs.{first_breach_of}
+use Rattle.px_parse.specs.Programs.{IsProgram}
+use Rattle.px_types.specs.Checked.{fault_at, fault_of, checked_of}
+use Rattle.px_types.specs.Programs.{first_breach_of}
 use Rattle.px_facts.specs.declared.checked.Checked.{Checked}
 use Rattle.px_normal.specs.declared.code.Code.{Code}
 use Rattle.px_lowering.specs.Programs.{lowered}

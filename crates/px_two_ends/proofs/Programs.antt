@@ -4,12 +4,12 @@ use Rattle.std.specs.List.{AllByRecursion}
 use Rattle.px_value.specs.declared.value.Value.{Value}
 use Rattle.px_value.specs.declared.schema.Schema.{Schema}
 use Rattle.px_tree.specs.declared.Program.{Program}
-use Rattle.px_rules.specs.Checked.{checked_of}
+use Rattle.px_types.specs.Checked.{checked_of}
 use Rattle.px_soundness.specs.Laws.{IsAccepted}
 use Rattle.px_soundness.proofs.Accepted.{accepted_typed}
 use Rattle.px_soundness.proofs.Texts.{program_classes}
-use Rattle.px_semantics.specs.Program.{source_from}
-use Rattle.px_semantics.specs.Typing.{IsTyped as IsTypedSource}
+use Rattle.px_mean.specs.Program.{source_from}
+use Rattle.px_mean.specs.Typing.{IsTyped as IsTypedSource}
 use Rattle.px_normal.specs.declared.code.Code.{Code}
 use Rattle.px_normal.specs.CodeRun.{code_run}
 use Rattle.px_normal.specs.Typed.{IsTyped}

@@ -8,10 +8,10 @@ use Rattle.px_value.specs.Outcome.{Outcome}
 use Rattle.px_tree.specs.declared.Program.{Program}
 use Rattle.px_facts.specs.declared.checked.Entry.{Entry}
 use Rattle.px_effects.specs.Run.{Ask}
-use Rattle.px_rules.specs.Checked.{facts_of, checked_of}
+use Rattle.px_types.specs.Checked.{facts_of, checked_of}
 use Rattle.px_soundness.specs.Laws.{IsAccepted}
-use Rattle.px_semantics.specs.Program.{source_from}
-use Rattle.px_semantics.specs.Entry.{exec}
+use Rattle.px_mean.specs.Program.{source_from}
+use Rattle.px_mean.specs.Entry.{exec}
 use Rattle.px_normal.specs.declared.word.Operand.{Operand}
 use Rattle.px_normal.specs.declared.word.Word.TheVariants as w
 use Rattle.px_normal.specs.declared.code.Code.{Code}

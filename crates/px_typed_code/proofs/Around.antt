@@ -11,8 +11,8 @@ use Rattle.px_facts.specs.Types.{is_void, is_null, element_type as static_elemen
 use Rattle.px_facts.specs.declared.checked.Facts.{Facts}
 use Rattle.px_facts.specs.declared.checked.MethodFact.{MethodFact}
 use Rattle.px_facts.specs.declared.operation.Operation.{Operation}
-use Rattle.px_semantics.specs.Facts.{type_at, named_at, by_number, fields_of, element_number}
-use Rattle.px_semantics.specs.Typing.{is_select}
+use Rattle.px_mean.specs.Facts.{type_at, named_at, by_number, fields_of, element_number}
+use Rattle.px_mean.specs.Typing.{is_select}
 use Rattle.px_normal.specs.declared.ty.Ty.{Ty}
 use Rattle.px_normal.specs.declared.ty.Ty.TheVariants as ty
 use Rattle.px_normal.specs.declared.word.Operand.{Operand}
@@ -20,8 +20,8 @@ use Rattle.px_normal.specs.declared.method.Method.{Method}
 use Rattle.px_normal.specs.declared.code.Code.{Code}
 use Rattle.px_normal.specs.First.{numbered}
 use Rattle.px_normal.specs.Typed.{field_type, site_kind, element_type, is_query, AreFirst, AreSent, is_sent}
-use Rattle.px_semantics.specs.Typing as typing
-use Rattle.px_semantics.specs.Typing.{AreSendable, IsSendable}
+use Rattle.px_mean.specs.Typing as typing
+use Rattle.px_mean.specs.Typing.{AreSendable, IsSendable}
 use Rattle.px_lowering.specs.Types.{code_type, code_result}
 use Rattle.px_lowering.specs.Allocations.{kind_of}
 use Rattle.px_typed_code.specs.Values.{is_value, is_result}

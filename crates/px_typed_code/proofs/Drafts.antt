@@ -5,9 +5,9 @@ use Rattle.px_facts.specs.declared.types.Ty.{Ty as Static}
 use Rattle.px_facts.specs.declared.types.Ty.TheVariants as static
 use Rattle.px_facts.specs.Types.{is_void, is_null}
 use Rattle.px_facts.specs.declared.checked.Checked.{Checked}
-use Rattle.px_semantics.specs.Typed.{MayBeNull}
-use Rattle.px_semantics.specs.Typing as typing
-use Rattle.px_semantics.specs.Typing.{Fits}
+use Rattle.px_mean.specs.Typed.{MayBeNull}
+use Rattle.px_mean.specs.Typing as typing
+use Rattle.px_mean.specs.Typing.{Fits}
 use Rattle.px_normal.specs.declared.ty.Ty.{Ty}
 use Rattle.px_normal.specs.declared.ty.Ty.TheVariants as ty
 use Rattle.px_normal.specs.declared.word.Operand.{Operand}

@@ -22,10 +22,10 @@ use Rattle.px_facts.specs.declared.checked.Named.TheVariants as named
 use Rattle.px_facts.specs.declared.checked.Facts.{Facts}
 use Rattle.px_facts.specs.declared.checked.MethodFact.{MethodFact}
 use Rattle.px_facts.specs.declared.operation.Operation.{Operation}
-use Rattle.px_semantics.specs.Facts.{type_at, named_at, by_number, fields_of, params_in, operands_in, params_of, op_of, prefix_of, element_number}
-use Rattle.px_semantics.specs.Expressions.{literal}
-use Rattle.px_semantics.specs.Typing as typing
-use Rattle.px_semantics.specs.Typing.{GivesType, PrefixGives, BinaryGives, Fits, IsVariable, IsMember, IsLibrary, IsSendable, AreSendable, is_select, literal_type, IsTypedExpr, IsReceiver, AreArguments}
+use Rattle.px_mean.specs.Facts.{type_at, named_at, by_number, fields_of, params_in, operands_in, params_of, op_of, prefix_of, element_number}
+use Rattle.px_mean.specs.Expressions.{literal}
+use Rattle.px_mean.specs.Typing as typing
+use Rattle.px_mean.specs.Typing.{GivesType, PrefixGives, BinaryGives, Fits, IsVariable, IsMember, IsLibrary, IsSendable, AreSendable, is_select, literal_type, IsTypedExpr, IsReceiver, AreArguments}
 use Rattle.px_normal.specs.declared.ty.Ty.{Ty}
 use Rattle.px_normal.specs.declared.ty.Ty.TheVariants as ty
 use Rattle.px_normal.specs.declared.word.Operand.{Operand}

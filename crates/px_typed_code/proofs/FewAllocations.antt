@@ -11,7 +11,7 @@ use Rattle.px_facts.specs.declared.checked.Facts.{Facts}
 use Rattle.px_lowering.specs.declared.allocations.Allocation.{Allocation}
 use Rattle.px_lowering.specs.Allocations.{one_of, one_at, all_of, inner, here, in_expression, statement_step, in_statement}
 use Rattle.px_lowering.specs.Statements.{whole}
-use Rattle.px_semantics.specs.Facts.{type_at, named_at}
+use Rattle.px_mean.specs.Facts.{type_at, named_at}
 use Rattle.px_lowering.specs.Allocations.{kind_of}
 use Rattle.px_typed_code.specs.Sizes.{total, inner as inner_parts, with_itself, expressions, with_statement, size}
 

@@ -6,8 +6,8 @@ use Rattle.px_facts.specs.declared.types.Ty.{Ty as Static}
 use Rattle.px_facts.specs.declared.types.Ty.TheVariants as static
 use Rattle.px_facts.specs.declared.checked.Checked.{Checked}
 use Rattle.px_facts.specs.declared.checked.MethodFact.{MethodFact}
-use Rattle.px_semantics.specs.Program.{methods_of}
-use Rattle.px_semantics.specs.Typing.{IsTypedMethod}
+use Rattle.px_mean.specs.Program.{methods_of}
+use Rattle.px_mean.specs.Typing.{IsTypedMethod}
 use Rattle.px_normal.specs.declared.method.Method.{Method as CodeMethod}
 use Rattle.px_normal.specs.declared.node.Node.{Node}
 use Rattle.px_lowering.specs.declared.draft.Draft.{Draft}

@@ -11,8 +11,8 @@ use Rattle.px_facts.specs.declared.checked.Checked.{Checked}
 use Rattle.px_facts.specs.declared.checked.Facts.{Facts}
 use Rattle.px_facts.specs.declared.checked.ClassFact.{ClassFact}
 use Rattle.px_facts.specs.declared.checked.MethodFact.{MethodFact}
-use Rattle.px_semantics.specs.Program.{methods_of}
-use Rattle.px_semantics.specs.Typing.{IsTypedMethod}
+use Rattle.px_mean.specs.Program.{methods_of}
+use Rattle.px_mean.specs.Typing.{IsTypedMethod}
 use Rattle.px_normal.specs.declared.node.Node.{Node}
 use Rattle.px_normal.specs.declared.node.Counter.TheVariants.{ReachedEnd}
 use Rattle.px_normal.specs.declared.word.Word.TheVariants as w

@@ -16,10 +16,10 @@ use Rattle.px_facts.specs.Types.{is_void}
 use Rattle.px_facts.specs.declared.checked.Checked.{Checked}
 use Rattle.px_facts.specs.declared.checked.Named.{Named}
 use Rattle.px_facts.specs.declared.checked.Named.TheVariants as named
-use Rattle.px_semantics.specs.Facts.{type_at, named_at, op_of}
-use Rattle.px_semantics.specs.Statements.{one}
-use Rattle.px_semantics.specs.Typing as typing
-use Rattle.px_semantics.specs.Typing.{IsVariable, IsMember, IsTypedExpr, IsTypedStmt, AreTypedStmts}
+use Rattle.px_mean.specs.Facts.{type_at, named_at, op_of}
+use Rattle.px_mean.specs.Statements.{one}
+use Rattle.px_mean.specs.Typing as typing
+use Rattle.px_mean.specs.Typing.{IsVariable, IsMember, IsTypedExpr, IsTypedStmt, AreTypedStmts}
 use Rattle.px_normal.specs.declared.word.Operand.TheVariants.{Slot, Literal}
 use Rattle.px_normal.specs.declared.word.Word.TheVariants as w
 use Rattle.px_normal.specs.declared.node.Counter.TheVariants.{Begun, Completed}

@@ -11,10 +11,10 @@ use Rattle.px_facts.specs.declared.types.Ty.{Ty as Static}
 use Rattle.px_facts.specs.declared.types.Ty.TheVariants as static
 use Rattle.px_facts.specs.declared.checked.Checked.{Checked}
 use Rattle.px_facts.specs.declared.checked.Named.{Named}
-use Rattle.px_semantics.specs.Facts.{type_at, named_at, params_of}
-use Rattle.px_semantics.specs.Expressions.{literal, is_operation}
-use Rattle.px_semantics.specs.Typing as typing
-use Rattle.px_semantics.specs.Typing.{IsLibrary, IsTypedExpr, IsReceiver, AreArguments}
+use Rattle.px_mean.specs.Facts.{type_at, named_at, params_of}
+use Rattle.px_mean.specs.Expressions.{literal, is_operation}
+use Rattle.px_mean.specs.Typing as typing
+use Rattle.px_mean.specs.Typing.{IsLibrary, IsTypedExpr, IsReceiver, AreArguments}
 use Rattle.px_normal.specs.declared.ty.Ty.TheVariants as ty
 use Rattle.px_normal.specs.declared.word.Word.{Word}
 use Rattle.px_normal.specs.declared.word.Word.TheVariants as w

@@ -16,9 +16,9 @@ use Rattle.px_facts.specs.Types.{is_void}
 use Rattle.px_facts.specs.declared.checked.Checked.{Checked}
 use Rattle.px_facts.specs.declared.checked.Named.{Named}
 use Rattle.px_facts.specs.declared.checked.Named.TheVariants as named
-use Rattle.px_semantics.specs.Facts.{type_at, named_at, op_of}
-use Rattle.px_semantics.specs.Typing as typing
-use Rattle.px_semantics.specs.Typing.{IsVariable, IsMember, IsTypedExpr, IsTypedStmt, AreTypedStmts}
+use Rattle.px_mean.specs.Facts.{type_at, named_at, op_of}
+use Rattle.px_mean.specs.Typing as typing
+use Rattle.px_mean.specs.Typing.{IsVariable, IsMember, IsTypedExpr, IsTypedStmt, AreTypedStmts}
 use Rattle.px_normal.specs.declared.node.Counter.TheVariants.{Completed}
 use Rattle.px_lowering.specs.declared.draft.Draft.{Draft}
 use Rattle.px_lowering.specs.declared.valued.Step.TheVariants as step

@@ -7,9 +7,9 @@ use Rattle.px_tree.specs.declared.Sign.TheVariants as sign
 use Rattle.px_facts.specs.declared.types.Ty.{Ty as Static}
 use Rattle.px_facts.specs.declared.types.Ty.TheVariants as static
 use Rattle.px_facts.specs.Types.{is_void, is_null}
-use Rattle.px_semantics.specs.Facts.{op_of, prefix_of}
-use Rattle.px_semantics.specs.Typing as typing
-use Rattle.px_semantics.specs.Typing.{Promotes, IsArithmetic, IsOfBits, IsShift, IsOrder, IsEquality, IsObject, AreCompared, GivesType, PrefixGives, BinaryGives}
+use Rattle.px_mean.specs.Facts.{op_of, prefix_of}
+use Rattle.px_mean.specs.Typing as typing
+use Rattle.px_mean.specs.Typing.{Promotes, IsArithmetic, IsOfBits, IsShift, IsOrder, IsEquality, IsObject, AreCompared, GivesType, PrefixGives, BinaryGives}
 use Rattle.px_normal.specs.declared.ty.Ty.{Ty}
 use Rattle.px_normal.specs.declared.ty.Ty.TheVariants as ty
 use Rattle.px_normal.specs.Typed.{wide, number_type, if_any, bits_type, compared_type, op_type}

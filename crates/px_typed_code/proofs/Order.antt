@@ -10,8 +10,8 @@ use Rattle.px_facts.specs.declared.types.Ty.{Ty as Static}
 use Rattle.px_facts.specs.declared.checked.Checked.{Checked}
 use Rattle.px_facts.specs.declared.checked.ClassFact.{ClassFact}
 use Rattle.px_facts.specs.declared.checked.MethodFact.{MethodFact}
-use Rattle.px_semantics.specs.Program.{source_from}
-use Rattle.px_semantics.specs.Typing.{IsTyped as IsTypedSource}
+use Rattle.px_mean.specs.Program.{source_from}
+use Rattle.px_mean.specs.Typing.{IsTyped as IsTypedSource}
 use Rattle.px_normal.specs.declared.node.Node.{Node}
 use Rattle.px_normal.specs.declared.code.Site.{Site}
 use Rattle.px_lowering.specs.declared.allocations.Allocation.{Allocation}

@@ -14,9 +14,9 @@ use Rattle.px_facts.specs.declared.checked.ClassFact.{ClassFact}
 use Rattle.px_facts.specs.declared.checked.MethodFact.{MethodFact}
 use Rattle.px_facts.specs.declared.checked.Entry.{Entry}
 use Rattle.px_facts.specs.declared.operation.Operation.{Operation}
-use Rattle.px_semantics.specs.Facts.{by_number, fields_in as types_in}
-use Rattle.px_semantics.specs.Program.{methods_of, source_from}
-use Rattle.px_semantics.specs.Typing.{IsTyped as IsTypedSource, IsTypedMethod as IsTypedSourceMethod, inner_type, given_type}
+use Rattle.px_mean.specs.Facts.{by_number, fields_in as types_in}
+use Rattle.px_mean.specs.Program.{methods_of, source_from}
+use Rattle.px_mean.specs.Typing.{IsTyped as IsTypedSource, IsTypedMethod as IsTypedSourceMethod, inner_type, given_type}
 use Rattle.px_normal.specs.declared.ty.Ty.{Ty}
 use Rattle.px_normal.specs.declared.ty.Ty.TheVariants as ty
 use Rattle.px_normal.specs.declared.class.Class.{Class as CodeClass}

@@ -5,9 +5,9 @@ use Rattle.px_facts.specs.declared.types.Ty.{Ty as Static}
 use Rattle.px_facts.specs.declared.checked.Checked.{Checked}
 use Rattle.px_facts.specs.declared.checked.ClassFact.{ClassFact}
 use Rattle.px_facts.specs.declared.checked.MethodFact.{MethodFact}
-use Rattle.px_semantics.specs.Facts.{by_number, fields_in}
-use Rattle.px_semantics.specs.Program.{methods_of, source_from}
-use Rattle.px_semantics.specs.Typing.{IsTyped as IsTypedSource}
+use Rattle.px_mean.specs.Facts.{by_number, fields_in}
+use Rattle.px_mean.specs.Program.{methods_of, source_from}
+use Rattle.px_mean.specs.Typing.{IsTyped as IsTypedSource}
 use Rattle.px_normal.specs.declared.ty.Ty.{Ty}
 use Rattle.px_normal.specs.declared.ty.Ty.TheVariants as ty
 use Rattle.px_normal.specs.declared.class.Class.{Class as CodeClass}

@@ -18,10 +18,10 @@ use Rattle.px_facts.specs.declared.checked.Checked.{Checked}
 use Rattle.px_facts.specs.declared.checked.Named.{Named}
 use Rattle.px_facts.specs.declared.checked.Named.TheVariants as named
 use Rattle.px_facts.specs.declared.checked.Facts.{Facts}
-use Rattle.px_semantics.specs.Facts.{type_at, named_at, fields_of, op_of, element_number}
-use Rattle.px_semantics.specs.Statements.{one}
-use Rattle.px_semantics.specs.Typing as typing
-use Rattle.px_semantics.specs.Typing.{Promotes, GivesType, Fits, IsVariable, IsMember, IsTypedExpr, WritesLocal, IsTypedStmt, AreTypedStmts}
+use Rattle.px_mean.specs.Facts.{type_at, named_at, fields_of, op_of, element_number}
+use Rattle.px_mean.specs.Statements.{one}
+use Rattle.px_mean.specs.Typing as typing
+use Rattle.px_mean.specs.Typing.{Promotes, GivesType, Fits, IsVariable, IsMember, IsTypedExpr, WritesLocal, IsTypedStmt, AreTypedStmts}
 use Rattle.px_normal.specs.declared.ty.Ty.{Ty}
 use Rattle.px_normal.specs.declared.ty.Ty.TheVariants as ty
 use Rattle.px_normal.specs.declared.word.Operand.{Operand}

@@ -13,9 +13,9 @@ use Rattle.px_facts.specs.declared.checked.Entry.{Entry}
 use Rattle.px_facts.specs.declared.checked.Named.{Named}
 use Rattle.px_facts.specs.declared.checked.Named.TheVariants as named
 use Rattle.px_facts.specs.declared.operation.Operation.{Operation}
-use Rattle.px_semantics.specs.Facts.{type_at, named_at, by_number, fields_of}
-use Rattle.px_semantics.specs.Program.{methods_of, source_from}
-use Rattle.px_semantics.specs.Typing.{IsTyped as IsTypedSource, inner_type}
+use Rattle.px_mean.specs.Facts.{type_at, named_at, by_number, fields_of}
+use Rattle.px_mean.specs.Program.{methods_of, source_from}
+use Rattle.px_mean.specs.Typing.{IsTyped as IsTypedSource, inner_type}
 use Rattle.px_normal.specs.declared.ty.Ty.{Ty as CodeTy}
 use Rattle.px_normal.specs.declared.ty.Ty.TheVariants as code_ty
 use Rattle.px_normal.specs.declared.method.Method.{Method as CodeMethod}

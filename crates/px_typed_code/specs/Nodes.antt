@@ -1,8 +1,8 @@
 -- The order of nodes.
 use Rattle.std.specs.Prelude.{◌≡◌, ℕ, zero, suc, ◌+◌, List, [], ◌∷◌, ◌++◌, length, map, Option, Some, None}
 use Rattle.px_facts.specs.declared.checked.Checked.{Checked}
-use Rattle.px_semantics.specs.Program.{source_from}
-use Rattle.px_semantics.specs.Typing.{IsTyped as IsTypedSource}
+use Rattle.px_mean.specs.Program.{source_from}
+use Rattle.px_mean.specs.Typing.{IsTyped as IsTypedSource}
 use Rattle.px_normal.specs.declared.method.Method.{Method}
 use Rattle.px_normal.specs.declared.method.Tree.{Tree, Tree-F, fold-Tree}
 use Rattle.px_normal.specs.declared.method.Tree.TheOpen.{Tree-F as t}

@@ -10,9 +10,9 @@ use Rattle.px_tree.specs.declared.Method.{Method}
 use Rattle.px_tree.specs.declared.Class.{Class}
 use Rattle.px_facts.specs.declared.checked.Checked.{Checked}
 use Rattle.px_facts.specs.declared.checked.MethodFact.{MethodFact}
-use Rattle.px_semantics.specs.Facts.{by_number}
-use Rattle.px_semantics.specs.Program.{methods_of, source_from}
-use Rattle.px_semantics.specs.Typing.{IsTyped as IsTypedSource}
+use Rattle.px_mean.specs.Facts.{by_number}
+use Rattle.px_mean.specs.Program.{methods_of, source_from}
+use Rattle.px_mean.specs.Typing.{IsTyped as IsTypedSource}
 use Rattle.px_normal.specs.declared.method.Method.{Method as CodeMethod}
 use Rattle.px_normal.specs.First.{numbered}
 use Rattle.px_lowering.specs.Statements.{whole}

@@ -17,8 +17,8 @@ use Rattle.px_facts.specs.declared.checked.Facts.{Facts}
 use Rattle.px_facts.specs.declared.checked.Named.{Named}
 use Rattle.px_facts.specs.declared.checked.Named.TheVariants as named
 use Rattle.px_facts.specs.declared.operation.Operation.{Operation}
-use Rattle.px_semantics.specs.Facts.{type_at, named_at, by_number, op_of}
-use Rattle.px_semantics.specs.Typing.{is_select}
+use Rattle.px_mean.specs.Facts.{type_at, named_at, by_number, op_of}
+use Rattle.px_mean.specs.Typing.{is_select}
 
 -- ---- expressions
 

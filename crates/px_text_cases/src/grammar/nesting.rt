@@ -1,6 +1,6 @@
 //! How deep a program may nest, and which token is refused that stands one deeper. One token stands on a line.
 use super::parse_line;
-use px_grammar::refused_line;
+use px_parse::refused_line;
 use std::alloc::{AllocError, Global};
 
 // What stands before, what is repeated before the middle, the middle, what is repeated behind it, what stands behind; how often at most, and

@@ -1,6 +1,6 @@
 //! A program that uses every rule, cut off behind each of its tokens.
 use super::parse_line;
-use px_grammar::refused_line;
+use px_parse::refused_line;
 use std::alloc::AllocError;
 
 // One token a line.

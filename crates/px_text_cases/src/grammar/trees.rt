@@ -2,7 +2,7 @@
 
 use super::printed::Printed;
 use super::within;
-use px_grammar::{ParseError, parse};
+use px_parse::{ParseError, parse};
 use std::alloc::Global;
 use std::process::Abort;
 

@@ -1,4 +1,4 @@
-use Rattle.px_rules.specs.Checked.{checked_of}
+use Rattle.px_types.specs.Checked.{checked_of}
 use Rattle.px_soundness.proofs.Accepted.{accepted_typed}
 use Rattle.px_soundness.proofs.Texts.{program_classes}
 use Rattle.px_counted.proofs.Whole.{counts_are_runs}

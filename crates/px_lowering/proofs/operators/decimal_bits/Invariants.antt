@@ -1,5 +1,5 @@
 use Rattle.std.proofs.Common.{◌≡◌, ◌%◌, ◌^◌, drop}
-use Rattle.px_semantics.specs.Expressions.{decimal_value}
+use Rattle.px_mean.specs.Expressions.{decimal_value}
 use Rattle.px_lowering.proofs.operators.decimal_bits.Given as goal
 
 abbrev pub invariant-loop-digit : goal.invariant-loop-digit

@@ -1,5 +1,5 @@
 use Rattle.std.proofs.Common.{◌≡◌, ◌++◌, drop}
-use Rattle.px_semantics.specs.Program.{methods_of}
+use Rattle.px_mean.specs.Program.{methods_of}
 use Rattle.px_lowering.specs.Methods.{all_now}
 use Rattle.px_lowering.proofs.program.methods_of.Given as goal
 

@@ -1,5 +1,5 @@
 use Rattle.std.proofs.Common.{◌≡◌, ◌++◌, drop}
-use Rattle.px_semantics.specs.Program.{methods_in}
+use Rattle.px_mean.specs.Program.{methods_in}
 use Rattle.px_lowering.specs.Methods.{all_now}
 use Rattle.px_lowering.proofs.program.push_methods.Given as goal
 

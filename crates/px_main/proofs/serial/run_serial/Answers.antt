@@ -1,7 +1,7 @@
 use Rattle.std.proofs.Common.{List, map, ap, ◌∙◌}
-use Rattle.px_interpreter.specs.declared.serial.Call.{Call}
-use Rattle.px_interpreter.specs.declared.serial.Ran.{Ran}
-use Rattle.px_interpreter.specs.Serial.{told_call}
+use Rattle.px_plain.specs.declared.serial.Call.{Call}
+use Rattle.px_plain.specs.declared.serial.Ran.{Ran}
+use Rattle.px_plain.specs.Serial.{told_call}
 use Rattle.px_main.specs.Run.{wanted, tables_of}
 use Rattle.px_main.proofs.Ran.{served}
 use Rattle.px_main.proofs.serial.run_serial.Goals as goal

@@ -1,6 +1,6 @@
 use Rattle.std.proofs.Common.{length, refl, arith}
 use Rattle.std.proofs.lemmas.Option.{slice_get_read}
-use Rattle.px_interpreter.specs.Serial.{told_call}
+use Rattle.px_plain.specs.Serial.{told_call}
 use Rattle.px_main.specs.Run.{wanted}
 use Rattle.px_main.proofs.Pushed.{mapped_more}
 use Rattle.px_main.proofs.serial.wanted_calls.Goals as goal

@@ -1,5 +1,5 @@
 use Rattle.std.proofs.Common.{◌≡◌, ◌++◌, map, drop}
-use Rattle.px_interpreter.specs.Serial.{told_call}
+use Rattle.px_plain.specs.Serial.{told_call}
 use Rattle.px_main.specs.Run.{wanted}
 use Rattle.px_main.proofs.serial.wanted_calls.Given as goal
 

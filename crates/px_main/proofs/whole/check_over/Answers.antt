@@ -1,6 +1,6 @@
 use Rattle.std.proofs.Common.{Result, Err, ap}
 use Rattle.px_facts.specs.declared.checked.Checked.{Checked}
-use Rattle.px_rules.specs.declared.error.CheckError.{CheckError}
+use Rattle.px_types.specs.declared.error.CheckError.{CheckError}
 use Rattle.px_main.proofs.Faults.{checked_found, fault_found}
 use Rattle.px_main.proofs.whole.check_over.Goals as goal
 

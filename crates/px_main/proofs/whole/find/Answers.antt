@@ -1,6 +1,6 @@
 use Rattle.std.proofs.Common.{ℕ, Result, Err, ap}
 use Rattle.px_tree.specs.declared.Program.{Program}
-use Rattle.px_grammar.specs.declared.error.ParseError.{ParseError}
+use Rattle.px_parse.specs.declared.error.ParseError.{ParseError}
 use Rattle.px_main.specs.declared.fault.ProgramCode.TheVariants.{Syntax}
 use Rattle.px_main.specs.Whole.{fault_at, ungrammatical}
 use Rattle.px_main.proofs.Found.{found_by}

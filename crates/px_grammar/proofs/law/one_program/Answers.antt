@@ -1,5 +1,0 @@
-use Rattle.px_grammar.proofs.law.one_program.Goals as goal
-use Rattle.px_grammar.proofs.Programs as programs
-
-pub returns : goal.returns
-returns c = programs.one_program

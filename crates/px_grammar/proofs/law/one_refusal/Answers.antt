@@ -1,5 +1,0 @@
-use Rattle.px_grammar.proofs.law.one_refusal.Goals as goal
-use Rattle.px_grammar.proofs.Programs as programs
-
-pub returns : goal.returns
-returns c = λ bytes. record { one_line = programs.one_line bytes; no_program = programs.no_program bytes }

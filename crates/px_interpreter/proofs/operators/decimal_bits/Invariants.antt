@@ -1,6 +1,0 @@
-use Rattle.std.proofs.Common.{◌≡◌, ◌%◌, ◌^◌, drop}
-use Rattle.px_semantics.specs.Expressions.{decimal_value}
-use Rattle.px_interpreter.proofs.operators.decimal_bits.Given as goal
-
-abbrev pub invariant-loop-digit : goal.invariant-loop-digit
-invariant-loop-digit l = decimal_value l.fn.digits 0 % 2 ^ 64 ≡ decimal_value (drop l.digit-index l.digits) l.bits % 2 ^ 64

@@ -1,6 +1,0 @@
-use Rattle.std.proofs.Common.{◌≡◌, replicate}
-use Rattle.px_semantics.specs.Entry.{first_heap}
-use Rattle.px_interpreter.proofs.plain.first_heaps.Given as goal
-
-abbrev pub invariant-loop : goal.invariant-loop
-invariant-loop l = l.heaps.items ≡ replicate l.counter (first_heap l.facts)

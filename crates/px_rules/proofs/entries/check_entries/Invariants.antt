@@ -1,9 +1,0 @@
-use Rattle.std.proofs.Common.{◌≡◌, drop}
-use Rattle.px_rules.specs.Breaches.{after}
-use Rattle.px_rules.specs.Programs.{entries}
-use Rattle.px_rules.proofs.entries.check_entries.Given as goal
-
-abbrev pub invariant-loop-member : goal.invariant-loop-member
-invariant-loop-member l = record {
-  notes : after l.report (entries l.fn.numbers (drop l.member-index l.fn.members)) ≡ after l.fn.report (entries l.fn.numbers l.fn.members);
-}

@@ -1,8 +1,0 @@
-use Rattle.std.proofs.Common.{◌≡◌, ◌++◌, drop}
-use Rattle.px_rules.specs.Bodies.{firsts_from}
-use Rattle.px_rules.proofs.verdict.firsts.Given as goal
-
-abbrev pub invariant-loop-class : goal.invariant-loop-class
-invariant-loop-class l = record {
-  firsts : l.firsts ++ firsts_from l.first (drop l.class-index l.fn.members) ≡ firsts_from 1 l.fn.members;
-}

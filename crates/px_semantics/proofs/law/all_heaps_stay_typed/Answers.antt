@@ -1,5 +1,0 @@
-use Rattle.px_semantics.proofs.TypedCalls.{serves_kept}
-use Rattle.px_semantics.proofs.law.all_heaps_stay_typed.Goals as goal
-
-pub returns : goal.returns
-returns t c = λ test ask P calls stand typed answers a h. serves_kept _ _ ask P answers typed calls stand a h

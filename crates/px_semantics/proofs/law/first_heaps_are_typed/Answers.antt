@@ -1,5 +1,0 @@
-use Rattle.px_semantics.proofs.TypedCalls.{first_stand_typed}
-use Rattle.px_semantics.proofs.law.first_heaps_are_typed.Goals as goal
-
-pub returns : goal.returns
-returns t c = λ test P sessions world h. first_stand_typed _ _ P sessions world h

@@ -1,5 +1,0 @@
-use Rattle.px_semantics.proofs.OnTables.{lists_as_tables}
-use Rattle.px_semantics.proofs.law.lists_as_tables.Goals as goal
-
-pub returns : goal.returns
-returns t c = lists_as_tables _

@@ -1,5 +1,0 @@
-use Rattle.px_semantics.proofs.OnList.{only_written_down}
-use Rattle.px_semantics.proofs.law.only_written_down.Goals as goal
-
-pub returns : goal.returns
-returns c = only_written_down

@@ -1,5 +1,0 @@
-use Rattle.px_semantics.proofs.OnList.{open_at_the_end}
-use Rattle.px_semantics.proofs.law.open_at_the_end.Goals as goal
-
-pub returns : goal.returns
-returns c = open_at_the_end
