@@ -2,9 +2,9 @@
 use Rattle.std.proofs.Common.{◌≡◌, ◌≤◌, ◌<◌, ℕ, zero, suc, ◌+◌, ◌-◌, ◌*◌, nat_lt, true, List, [], ◌∷◌, ◌++◌, length, length-append, map, Option, Some, slice_get, refl, subst, arith}
 use Rattle.std.proofs.lemmas.Bool.Decides.{nat_tests}
 use Rattle.px_lex.specs.declared.token.Token.{Token}
-use Rattle.px_parse.specs.declared.lexeme.Lexeme.{Lexeme}
+use Rattle.px_words.specs.declared.lexeme.Lexeme.{Lexeme}
 use Rattle.px_parse.specs.declared.whole.Declared.{Declared}
-use Rattle.px_parse.specs.Lexemes.{lexemes_from}
+use Rattle.px_words.specs.Lexemes.{lexemes_from}
 use Rattle.px_parse.specs.Trees.{name_of, block_of, first_token}
 use Rattle.px_parse.specs.Grammar.{SpellsType, SpellsAccess, SpellsResult, SpellsParam, SpellsMoreParams, SpellsParams, SpellsMember, SpellsMembers, SpellsClass, SpellsClasses, SpellsProgram}
 use Rattle.px_tree.specs.declared.Access.{Access}

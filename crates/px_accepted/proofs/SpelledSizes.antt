@@ -1,6 +1,6 @@
 -- The statements and expressions in a statement are no more than the tokens of its text.
 use Rattle.std.proofs.Common.{◌≡◌, ◌≤◌, ℕ, ◌+◌, Bool, false, List, [], ◌∷◌, ◌++◌, length, length-append, map, Some, None, sym, ap, ◌∙◌, arith}
-use Rattle.px_parse.specs.declared.lexeme.Lexeme.{Lexeme}
+use Rattle.px_words.specs.declared.lexeme.Lexeme.{Lexeme}
 use Rattle.px_parse.specs.Trees.{name_of}
 use Rattle.px_parse.specs.Grammar.{Ending, SpellsSimple, SpellsLocal, SpellsFirst, SpellsStatement, SpellsItem, SpellsItems}
 use Rattle.px_tree.specs.declared.Sign.{Sign}

@@ -1,6 +1,6 @@
 -- The parts of a statement and the slots of its locals are no more than the tokens of its text.
 use Rattle.std.proofs.Common.{◌≡◌, ◌≤◌, ℕ, ◌+◌, Bool, false, List, [], ◌∷◌, ◌++◌, length, length-append, map, Some, None, refl, sym, ap, ◌∙◌, arith}
-use Rattle.px_parse.specs.declared.lexeme.Lexeme.{Lexeme}
+use Rattle.px_words.specs.declared.lexeme.Lexeme.{Lexeme}
 use Rattle.px_parse.specs.Trees.{name_of}
 use Rattle.px_parse.specs.Grammar.{Ending, SpellsSimple, SpellsLocal, SpellsFirst, SpellsStatement, SpellsItem, SpellsItems}
 use Rattle.px_tree.specs.declared.Sign.{Sign}

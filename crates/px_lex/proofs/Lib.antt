@@ -1,9 +1,7 @@
 pub mod Reaches
 pub mod Sizes
 pub mod Cuts
-pub mod Lexing
 pub mod Closings
-pub mod Forms
 pub mod Scans
 pub mod Longest
 pub mod Spelled

@@ -4,6 +4,5 @@ pub mod Names
 pub mod Pieces
 pub mod Ahead
 pub mod Cutting
-pub mod Lexemes
-pub mod Unbuilt
+pub mod Spelling
 pub mod Lexical

@@ -1,8 +1,8 @@
 use crate::text::text_of;
-use px_parse::parse;
 use px_lowering::lower;
-use px_types::check;
+use px_parse::parse;
 use px_sql::read_schema;
+use px_types::check;
 use std::alloc::{AllocError, Global};
 use std::process::Abort;
 

@@ -6,8 +6,8 @@ ghost use Rattle.px_main.specs.Run.{session_in, count_of, counted, no_counts, sh
 use crate::serial::{class_names, run_serial};
 use px_code::Shown;
 use px_facts::Checked;
-use px_plain::Ran;
 use px_job::Job;
+use px_plain::Ran;
 use px_report::{ShownCall, run_text};
 use sqlite_items::at;
 use std::alloc::{AllocError, Global};

@@ -4,8 +4,8 @@ ghost use Rattle.px_plain.specs.Serial.{told_call, ran_of};
 ghost use Rattle.px_main.specs.Run.{wanted, with_row, tables_of, run_of};
 
 use px_facts::Checked;
-use px_plain::{Call, Ran, serve};
 use px_job::{Job, Row};
+use px_plain::{Call, Ran, serve};
 use px_rows::{LoadError, Tables};
 use px_tree::Class;
 use px_value::{Schema, Text, Value, Values};

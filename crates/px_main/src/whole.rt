@@ -9,9 +9,9 @@ ghost use Rattle.px_main.specs.Whole.{by_rules, by_tables, table_line, IsFound, 
 use crate::fault::{Fault, ProgramCode};
 use px_facts::Checked;
 use px_parse::{ParseError, line_at, parse};
-use px_types::{CheckError, check};
 use px_sql::{SchemaError, read_schema};
 use px_tree::Program;
+use px_types::{CheckError, check};
 use px_value::Schema;
 use sqlite_items::at;
 use std::alloc::{AllocError, Global};

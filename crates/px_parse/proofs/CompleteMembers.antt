@@ -1,16 +1,16 @@
 -- What spells a member of a class is read.
 use Rattle.std.proofs.Common.{◌≡◌, ℕ, suc, ◌≤◌, Bool, true, not, List, [], ◌∷◌, ◌++◌, length, Option, Some, None, refl, ap, ◌∙◌, append_assoc, arith, length-append}
-use Rattle.px_parse.specs.declared.lexeme.Lexeme.{Lexeme}
-use Rattle.px_parse.specs.declared.lexeme.Word.{Word}
-use Rattle.px_parse.specs.declared.lexeme.Word.TheVariants as w
+use Rattle.px_words.specs.declared.lexeme.Lexeme.{Lexeme}
+use Rattle.px_words.specs.declared.lexeme.Word.{Word}
+use Rattle.px_words.specs.declared.lexeme.Word.TheVariants as w
 use Rattle.px_tree.specs.declared.Access.{Access}
 use Rattle.px_tree.specs.declared.Access.TheVariants.{Plain}
 use Rattle.px_tree.specs.declared.TypeName.{TypeName}
 use Rattle.px_tree.specs.declared.Param.{Param}
 use Rattle.px_tree.specs.declared.Stmt.{Stmt}
 use Rattle.px_tree.specs.declared.Member.{Member}
-use Rattle.px_parse.specs.Lexemes.{is_name}
-use Rattle.px_parse.specs.Words.{is_base}
+use Rattle.px_words.specs.Lexemes.{is_name}
+use Rattle.px_words.specs.Words.{is_base}
 use Rattle.px_parse.specs.Trees.{first_token, block_of, field_declaration_of, method_with}
 use Rattle.px_parse.specs.Grammar as g
 use Rattle.px_parse.specs.Grammar.{SpellsType, SpellsItems, SpellsAccess, SpellsResult, SpellsParam, SpellsMoreParams, SpellsParams, SpellsThrows, SpellsMember, SpellsMembers}

@@ -1,14 +1,14 @@
 -- Operands and operators are read: a step for each rule.
 use Rattle.std.proofs.Common.{◌≡◌, ℕ, zero, suc, ◌+◌, ◌≤◌, ◌<◌, nat_le, List, ◌∷◌, ◌++◌, Option, Some, None, length, refl, sym, ap, subst, ◌∙◌, append_assoc, arith}
-use Rattle.px_parse.specs.declared.lexeme.Lexeme.{Lexeme}
-use Rattle.px_parse.specs.declared.lexeme.Word.{Word}
-use Rattle.px_parse.specs.declared.lexeme.Word.TheVariants as w
+use Rattle.px_words.specs.declared.lexeme.Lexeme.{Lexeme}
+use Rattle.px_words.specs.declared.lexeme.Word.{Word}
+use Rattle.px_words.specs.declared.lexeme.Word.TheVariants as w
 use Rattle.px_tree.specs.declared.Sign.{Sign}
 use Rattle.px_tree.specs.declared.Expr.{Expr}
-use Rattle.px_parse.specs.Words.{binary_sign, level, tightest, prefix_sign, cast_sign}
+use Rattle.px_words.specs.Words.{binary_sign, level, tightest, prefix_sign, cast_sign, cast_to}
 use Rattle.px_parse.specs.Trees.{prefix_of, binary_of}
 use Rattle.px_parse.specs.Grammar.{Ending, SpellsExpression, SpellsPostfix}
-use Rattle.px_parse.specs.Reading.{Read, Reads, and_then, ◌>>=◌, ◌>>◌, pure, next_word, take, expect, is_cast, cast_to, cast, prefixed, postfix, postfixes, operand_on, operand, operated, operator_on, operators, joined, expression}
+use Rattle.px_parse.specs.Reading.{Read, Reads, and_then, ◌>>=◌, ◌>>◌, pure, next_word, take, expect, is_cast, cast, prefixed, postfix, postfixes, operand_on, operand, operated, operator_on, operators, joined, expression}
 use Rattle.px_parse.proofs.FirstWords.{then_is, takes, expects, test_holds, test_fails, postfix_begins, postfix_has_no_prefix, postfix_is_no_cast, cast_is, sees_cast}
 use Rattle.px_parse.proofs.Endings.{StopsPostfix, Stops, Looser, looser_still, no_sign_is_looser, index_is_positive, at_least, rest_is_no_longer, postfixes_end, operators_end}
 

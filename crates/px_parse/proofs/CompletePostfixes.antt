@@ -1,10 +1,10 @@
 -- Arguments, and what follows a primary expression, are read: a step for each rule.
 use Rattle.std.proofs.Common.{◌≡◌, ℕ, zero, suc, ◌≤◌, ◌<◌, true, false, List, [], ◌∷◌, ◌++◌, Some, length, length-append, refl, sym, ap, subst, ◌∙◌, append_assoc, append-nil, arith}
-use Rattle.px_parse.specs.declared.lexeme.Lexeme.{Lexeme}
-use Rattle.px_parse.specs.declared.lexeme.Word.{Word}
-use Rattle.px_parse.specs.declared.lexeme.Word.TheVariants as w
+use Rattle.px_words.specs.declared.lexeme.Lexeme.{Lexeme}
+use Rattle.px_words.specs.declared.lexeme.Word.{Word}
+use Rattle.px_words.specs.declared.lexeme.Word.TheVariants as w
 use Rattle.px_tree.specs.declared.Expr.{Expr}
-use Rattle.px_parse.specs.Lexemes.{is_name}
+use Rattle.px_words.specs.Lexemes.{is_name}
 use Rattle.px_parse.specs.Trees.{variable_of, field_of, element_of, own_call_of, call_of}
 use Rattle.px_parse.specs.Grammar as g
 use Rattle.px_parse.specs.Grammar.{SpellsExpression, SpellsArguments, SpellsMoreArguments}

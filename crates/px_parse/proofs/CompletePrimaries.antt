@@ -1,11 +1,11 @@
 -- Primary expressions are read: a step for each rule.
 use Rattle.std.proofs.Common.{◌≡◌, ℕ, ◌≤◌, true, List, [], ◌∷◌, ◌++◌, Option, Some, length, refl, ap, ◌∙◌, append_assoc, arith}
-use Rattle.px_parse.specs.declared.lexeme.Lexeme.{Lexeme}
-use Rattle.px_parse.specs.declared.lexeme.Word.{Word}
-use Rattle.px_parse.specs.declared.lexeme.Word.TheVariants as w
+use Rattle.px_words.specs.declared.lexeme.Lexeme.{Lexeme}
+use Rattle.px_words.specs.declared.lexeme.Word.{Word}
+use Rattle.px_words.specs.declared.lexeme.Word.TheVariants as w
 use Rattle.px_tree.specs.declared.Expr.{Expr}
 use Rattle.px_tree.specs.declared.ExprForm.{ExprForm}
-use Rattle.px_parse.specs.Lexemes.{is_name}
+use Rattle.px_words.specs.Lexemes.{is_name}
 use Rattle.px_parse.specs.Trees.{expression_of, number_of, text_of, word_form, variable_of, group_of, object_of, array_of}
 use Rattle.px_parse.specs.Reading.{Reads, ◌>>=◌, ◌>>◌, pure, by_test, next_word, take, expect, sees, group, own_call, named, new_object, new_array, made, worded, primary_on, primary, postfixes, postfix, expression}
 use Rattle.px_parse.proofs.FirstWords.{then_is, takes, expects, sees_it, test_holds, test_fails, not_open}

@@ -1,16 +1,16 @@
 -- What spells a type, a simple statement or a local is read.
 use Rattle.std.proofs.Common.{◌≡◌, ℕ, ◌&&◌, ◌||◌, Bool, true, false, List, [], ◌∷◌, ◌++◌, Option, Some, None, refl, sym, ap, ◌∙◌, append_assoc, subst}
-use Rattle.px_parse.specs.declared.lexeme.Lexeme.{Lexeme}
-use Rattle.px_parse.specs.declared.lexeme.Word.{Word}
-use Rattle.px_parse.specs.declared.lexeme.Word.TheVariants as w
+use Rattle.px_words.specs.declared.lexeme.Lexeme.{Lexeme}
+use Rattle.px_words.specs.declared.lexeme.Word.{Word}
+use Rattle.px_words.specs.declared.lexeme.Word.TheVariants as w
 use Rattle.px_tree.specs.declared.Name.{Name as NameData}
 use Rattle.px_tree.specs.declared.Sign.{Sign}
 use Rattle.px_tree.specs.declared.Expr.{Expr}
 use Rattle.px_tree.specs.declared.ExprForm.{out-ExprForm}
 use Rattle.px_tree.specs.declared.Stmt.{Stmt}
 use Rattle.px_tree.specs.declared.TypeName.{TypeName}
-use Rattle.px_parse.specs.Lexemes.{is_name}
-use Rattle.px_parse.specs.Words.{compound_sign, is_primitive, is_base}
+use Rattle.px_words.specs.Lexemes.{is_name}
+use Rattle.px_words.specs.Words.{compound_sign, is_primitive, is_base}
 use Rattle.px_parse.specs.Trees.{name_of, variable_of, call_statement_of}
 use Rattle.px_parse.specs.Grammar as g
 use Rattle.px_parse.specs.Grammar.{Ending, SpellsType, SpellsExpression, SpellsOperand, SpellsPostfix, SpellsSimple, SpellsLocal, SpellsFirst, words_of}

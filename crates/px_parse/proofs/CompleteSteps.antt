@@ -2,14 +2,14 @@
 use Rattle.std.proofs.Common.{◌≡◌, ℕ, zero, suc, ◌≤◌, ◌&&◌, ◌||◌, Bool, true, false, not, if◌then◌else◌, List, [], ◌∷◌, ◌++◌, length, Some, None, refl, sym, ap, ◌∙◌, append_assoc, arith, length-append}
 use Rattle.std.proofs.lemmas.List.{append-nil}
 use denote.Enum.Bare.{same_true, false_same}
-use Rattle.px_parse.specs.contracts.lexeme.Word.{the_type}
-use Rattle.px_parse.specs.declared.lexeme.Lexeme.{Lexeme}
-use Rattle.px_parse.specs.declared.lexeme.Word.{Word}
-use Rattle.px_parse.specs.declared.lexeme.Word.TheVariants as w
+use Rattle.px_words.specs.contracts.lexeme.Word.{the_type}
+use Rattle.px_words.specs.declared.lexeme.Lexeme.{Lexeme}
+use Rattle.px_words.specs.declared.lexeme.Word.{Word}
+use Rattle.px_words.specs.declared.lexeme.Word.TheVariants as w
 use Rattle.px_tree.specs.declared.ExprForm.{ExprForm}
 use Rattle.px_tree.specs.declared.Sign.{Sign}
-use Rattle.px_parse.specs.Lexemes.{is_name}
-use Rattle.px_parse.specs.Words.{prefix_sign, binary_sign, is_primitive, is_base}
+use Rattle.px_words.specs.Lexemes.{is_name}
+use Rattle.px_words.specs.Words.{prefix_sign, binary_sign, is_primitive, is_base}
 use Rattle.px_parse.specs.Trees.{word_form}
 use Rattle.px_parse.specs.Reading.{State, Read, Reads, and_then, same_word, next_word, take, expect, repeated}
 use Rattle.px_parse.proofs.CompleteExpressions.{StopsPostfix, Stops}

@@ -1,17 +1,17 @@
 -- Steps of reading, and the words that expressions begin with.
 use Rattle.std.proofs.Common.{◌≡◌, ℕ, ◌&&◌, ◌||◌, Bool, true, false, if◌then◌else◌, List, [], ◌∷◌, ◌++◌, Some, None, refl, sym, ap, ◌∙◌, append_assoc, append-nil}
-use Rattle.px_parse.specs.declared.lexeme.Lexeme.{Lexeme}
-use Rattle.px_parse.specs.declared.lexeme.Word.{Word}
-use Rattle.px_parse.specs.declared.lexeme.Word.TheVariants as w
+use Rattle.px_words.specs.declared.lexeme.Lexeme.{Lexeme}
+use Rattle.px_words.specs.declared.lexeme.Word.{Word}
+use Rattle.px_words.specs.declared.lexeme.Word.TheVariants as w
 use Rattle.px_tree.specs.declared.Sign.{Sign}
 use Rattle.px_tree.specs.declared.Expr.{Expr}
 use Rattle.px_tree.specs.declared.ExprForm.{ExprForm}
-use Rattle.px_parse.specs.Lexemes.{is_name}
-use Rattle.px_parse.specs.Words.{prefix_sign, cast_sign}
+use Rattle.px_words.specs.Lexemes.{is_name}
+use Rattle.px_words.specs.Words.{prefix_sign, cast_sign, cast_to}
 use Rattle.px_parse.specs.Trees.{word_form}
 use Rattle.px_parse.specs.Grammar as g
 use Rattle.px_parse.specs.Grammar.{Ending, SpellsExpression, SpellsOperand, SpellsPostfix, SpellsArguments, SpellsMoreArguments}
-use Rattle.px_parse.specs.Reading.{State, Read, Reads, and_then, same_word, next_word, word_ahead, by_test, take, expect, sees, is_cast, cast_to}
+use Rattle.px_parse.specs.Reading.{State, Read, Reads, and_then, same_word, next_word, word_ahead, by_test, take, expect, sees, is_cast}
 
 -- ---- steps
 

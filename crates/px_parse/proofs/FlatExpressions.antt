@@ -1,7 +1,7 @@
 -- What spells a type or an expression has roles that are one.
 use Rattle.std.proofs.Common.{◌≢◌, ℕ, List, [], ◌∷◌, ◌++◌, refl, sym, ap, subst, append_assoc}
 use Rattle.std.proofs.lemmas.List.{map-append}
-use Rattle.px_parse.specs.declared.lexeme.Lexeme.{Lexeme}
+use Rattle.px_words.specs.declared.lexeme.Lexeme.{Lexeme}
 use Rattle.px_tree.specs.declared.Expr.{Expr}
 use Rattle.px_tree.specs.declared.TypeName.{TypeName}
 use Rattle.px_accept.specs.declared.role.Role.{Role}
@@ -10,7 +10,7 @@ use Rattle.px_accept.specs.Grammar as f
 use Rattle.px_accept.specs.Grammar.{Spelled}
 use Rattle.px_parse.specs.Grammar as g
 use Rattle.px_parse.specs.Grammar.{SpellsType, SpellsExpression, SpellsOperand, SpellsPostfix, SpellsArguments, SpellsMoreArguments, AtName, AtField, AtElement, AtCall, AtArray, AtPrimary}
-use Rattle.px_parse.specs.Roles.{role_of, role_at, roles_of}
+use Rattle.px_words.specs.Roles.{role_of, role_at, roles_of}
 use Rattle.px_parse.proofs.PartsOf.{roles_join}
 use Rattle.px_parse.proofs.RolesOf.{name_of_word, base_of_word, infix_of_word, prefix_of_word, cast_of_word, value_of_word}
 

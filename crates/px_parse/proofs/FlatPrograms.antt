@@ -1,6 +1,6 @@
 -- What spells a program has roles that are one.
 use Rattle.std.proofs.Common.{◌≡◌, ℕ, List, [], ◌∷◌, ◌++◌, Option, refl, append_assoc}
-use Rattle.px_parse.specs.declared.lexeme.Lexeme.{Lexeme}
+use Rattle.px_words.specs.declared.lexeme.Lexeme.{Lexeme}
 use Rattle.px_tree.specs.declared.Access.{Access}
 use Rattle.px_tree.specs.declared.TypeName.{TypeName}
 use Rattle.px_tree.specs.declared.Param.{Param}
@@ -17,7 +17,7 @@ use Rattle.px_accept.specs.Place.{IsProgram}
 use Rattle.px_parse.specs.declared.whole.Declared.{Declared}
 use Rattle.px_parse.specs.Grammar as g
 use Rattle.px_parse.specs.Grammar.{SpellsAccess, SpellsResult, SpellsParam, SpellsMoreParams, SpellsParams, SpellsThrows, SpellsMember, SpellsMembers, SpellsPublic, SpellsClass, SpellsClasses, SpellsMoreColumns, SpellsTable, SpellsTables, SpellsProgram}
-use Rattle.px_parse.specs.Roles.{roles_of}
+use Rattle.px_words.specs.Roles.{roles_of}
 use Rattle.px_parse.proofs.PartsOf.{roles_join}
 use Rattle.px_parse.proofs.RolesOf.{name_of_word, column_of_word}
 use Rattle.px_parse.proofs.FlatExpressions.{flat_type}

@@ -1,7 +1,7 @@
 -- What spells a statement has roles that are one.
 use Rattle.std.proofs.Common.{◌≡◌, ℕ, Bool, false, List, [], ◌∷◌, ◌++◌, append_assoc}
-use Rattle.px_parse.specs.declared.lexeme.Lexeme.{Lexeme}
-use Rattle.px_parse.specs.declared.lexeme.Word.TheVariants as w
+use Rattle.px_words.specs.declared.lexeme.Lexeme.{Lexeme}
+use Rattle.px_words.specs.declared.lexeme.Word.TheVariants as w
 use Rattle.px_tree.specs.declared.Stmt.{Stmt}
 use Rattle.px_accept.specs.declared.role.Role.{Role}
 use Rattle.px_accept.specs.declared.role.Role.TheVariants as r
@@ -9,7 +9,7 @@ use Rattle.px_accept.specs.Grammar as f
 use Rattle.px_accept.specs.Grammar.{Spelled}
 use Rattle.px_parse.specs.Grammar as g
 use Rattle.px_parse.specs.Grammar.{SpellsSimple, SpellsLocal, SpellsFirst, SpellsStatement, SpellsItem, SpellsItems}
-use Rattle.px_parse.specs.Roles.{roles_of}
+use Rattle.px_words.specs.Roles.{roles_of}
 use Rattle.px_parse.proofs.PartsOf.{roles_join}
 use Rattle.px_parse.proofs.RolesOf.{name_of_word, compound_of_word}
 use Rattle.px_parse.proofs.PrintFronts.{no_print_by_roles}

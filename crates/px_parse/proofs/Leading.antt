@@ -1,7 +1,7 @@
 -- Reading by what stands at the begin.
 use Rattle.std.proofs.Common.{◌≡◌, ℕ, List, Result, refl, sym, subst}
-use Rattle.px_parse.specs.declared.lexeme.Word.{Word}
-use Rattle.px_parse.specs.declared.lexeme.Word.TheVariants as w
+use Rattle.px_words.specs.declared.lexeme.Word.{Word}
+use Rattle.px_words.specs.declared.lexeme.Word.TheVariants as w
 use Rattle.px_tree.specs.declared.Expr.{Expr}
 use Rattle.px_parse.specs.declared.error.ReadError.{ReadError}
 use Rattle.px_parse.specs.Reading.{State, Read, Reads, Gives, primary_on, worded}

@@ -1,7 +1,7 @@
 -- What lexemes are, whose roles are a form: that some tree is spelled so.
 use Rattle.std.proofs.Common.{◌≡◌, ◌≢◌, ℕ, List, [], ◌∷◌, ◌++◌, Option, refl, sym, subst}
-use Rattle.px_parse.specs.declared.lexeme.Lexeme.{Lexeme}
-use Rattle.px_parse.specs.declared.lexeme.Word.TheVariants as w
+use Rattle.px_words.specs.declared.lexeme.Lexeme.{Lexeme}
+use Rattle.px_words.specs.declared.lexeme.Word.TheVariants as w
 use Rattle.px_tree.specs.declared.Expr.{Expr}
 use Rattle.px_tree.specs.declared.Stmt.{Stmt}
 use Rattle.px_tree.specs.declared.Access.{Access}
@@ -16,7 +16,7 @@ use Rattle.px_accept.specs.Grammar as f
 use Rattle.px_accept.specs.Grammar.{Form}
 use Rattle.px_parse.specs.Grammar as g
 use Rattle.px_parse.specs.Grammar.{SpellsType, SpellsExpression, SpellsOperand, SpellsPostfix, SpellsArguments, SpellsMoreArguments, SpellsSimple, SpellsFirst, SpellsStatement, SpellsItem, SpellsItems, SpellsAccess, SpellsResult, SpellsMoreParams, SpellsParams, SpellsThrows, SpellsMember, SpellsMembers, SpellsClass, SpellsClasses, SpellsMoreColumns, SpellsTables}
-use Rattle.px_parse.specs.Roles.{roles_of}
+use Rattle.px_words.specs.Roles.{roles_of}
 
 abbrev pub ending_at : f.Ending → g.Ending
 ending_at f.OneName = g.AtName

@@ -4,16 +4,16 @@ use Rattle.px_lex.specs.Cutting.{tokens_of}
 use Rattle.px_lex.specs.declared.token.Token.{Token}
 use Rattle.px_accept.specs.declared.role.Role.{Role}
 use Rattle.px_accept.specs.Place as accept
-use Rattle.px_parse.specs.declared.lexeme.Lexeme.{Lexeme}
+use Rattle.px_words.specs.declared.lexeme.Lexeme.{Lexeme}
 use Rattle.px_parse.specs.declared.whole.Declared.{Declared}
 use Rattle.px_parse.specs.declared.error.ReadError.{ReadError}
 use Rattle.px_parse.specs.declared.error.ReadError.TheVariants.{Unreadable, NoMemory}
 use Rattle.px_parse.specs.Grammar.{SpellsProgram}
-use Rattle.px_parse.specs.Lexemes.{lexemes_of}
+use Rattle.px_words.specs.Lexemes.{lexemes_of}
 use Rattle.px_parse.specs.Places.{line_at}
 use Rattle.px_parse.specs.Programs.{IsProgramText, IsJudged}
 use Rattle.px_parse.specs.Reading.{Read, program, Finds}
-use Rattle.px_parse.specs.Roles.{roles_of}
+use Rattle.px_words.specs.Roles.{roles_of}
 use Rattle.px_parse.proofs.CompletePrograms.{program_read}
 use Rattle.px_parse.proofs.Programs.{refused_at, accepted_text}
 

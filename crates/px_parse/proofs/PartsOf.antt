@@ -1,13 +1,13 @@
 -- Lexemes whose roles are a list of parts, cut into these.
 use Rattle.std.proofs.Common.{◌≡◌, true, List, [], ◌∷◌, ◌++◌, Some, refl, ap, ◌∙◌}
 use Rattle.std.proofs.lemmas.List.{map-append}
-use Rattle.px_parse.specs.declared.lexeme.Lexeme.{Lexeme}
-use Rattle.px_parse.specs.declared.lexeme.Word.{Word}
-use Rattle.px_parse.specs.Lexemes.{is_name}
+use Rattle.px_words.specs.declared.lexeme.Lexeme.{Lexeme}
+use Rattle.px_words.specs.declared.lexeme.Word.{Word}
+use Rattle.px_words.specs.Lexemes.{is_name}
 use Rattle.px_accept.specs.declared.role.Role.{Role}
 use Rattle.px_accept.specs.declared.role.Role.TheVariants as r
 use Rattle.px_accept.specs.declared.role.Spelling.{Spelling}
-use Rattle.px_parse.specs.Roles.{role_of, role_at, roles_of}
+use Rattle.px_words.specs.Roles.{role_of, role_at, roles_of}
 use Rattle.px_parse.proofs.RolesOf.{only_word, word_is, name_is}
 
 pub roles_join : (xs ys : List Lexeme) → roles_of (xs ++ ys) ≡ roles_of xs ++ roles_of ys

@@ -2,12 +2,12 @@
 use Rattle.std.proofs.Common.{◌≡◌, ℕ, ◌+◌, ◌<◌, ◌≤◌, ◌⊎◌, inl, inr, List, [], ◌∷◌, ◌++◌, length, take, drop, append_assoc, zero, suc, refl, sym, ap, ◌∙◌, subst, arith}
 use Rattle.std.proofs.lemmas.Bool.{cases_order}
 use Rattle.std.proofs.Math.Nat.{eq-or-lt_of_le}
-use Rattle.px_parse.specs.declared.lexeme.Lexeme.{Lexeme}
+use Rattle.px_words.specs.declared.lexeme.Lexeme.{Lexeme}
 use Rattle.px_accept.specs.Place as accept
 use Rattle.px_accept.specs.Grammar as flat
 use Rattle.px_parse.specs.declared.whole.Declared.{Declared}
 use Rattle.px_parse.specs.Grammar.{SpellsProgram}
-use Rattle.px_parse.specs.Roles.{role_at, roles_of}
+use Rattle.px_words.specs.Roles.{role_at, roles_of}
 use Rattle.px_parse.specs.Places.{BeginsProgram, IsDeep, IsShallow, IsPlace}
 use Rattle.px_parse.proofs.RolesOf.{lexemes_of_roles}
 use Rattle.px_parse.proofs.FlatPrograms.{flat_program}

@@ -1,14 +1,14 @@
 -- A print is told by its six first words, or by their roles.
 use Rattle.std.proofs.Common.{◌≡◌, Bool, true, false, List, [], ◌∷◌, Some, map, refl, sym, ap, ◌∙◌}
-use Rattle.px_parse.specs.declared.lexeme.Lexeme.{Lexeme}
-use Rattle.px_parse.specs.declared.lexeme.Word.{Word}
-use Rattle.px_parse.specs.declared.lexeme.Word.TheVariants as w
+use Rattle.px_words.specs.declared.lexeme.Lexeme.{Lexeme}
+use Rattle.px_words.specs.declared.lexeme.Word.{Word}
+use Rattle.px_words.specs.declared.lexeme.Word.TheVariants as w
 use Rattle.px_accept.specs.declared.role.Role.{Role}
 use Rattle.px_accept.specs.declared.role.Role.TheVariants as r
 use Rattle.px_accept.specs.declared.role.Spelling.TheVariants as s
 use Rattle.px_accept.specs.Grammar.{begins_print}
 use Rattle.px_parse.specs.Grammar.{is_print, words_of}
-use Rattle.px_parse.specs.Roles.{role_of, roles_of}
+use Rattle.px_words.specs.Roles.{role_of, roles_of}
 use Rattle.px_parse.proofs.RolesOf.{only_word, word_is}
 
 roles_by_words : (xs : List Lexeme) → roles_of xs ≡ map role_of (words_of xs)

@@ -1,12 +1,12 @@
 -- A text has one program, or one line at which it is refused.
 use Rattle.std.proofs.Common.{◌≡◌, ℕ, List, Option, Some, None, sym, ap, ◌∙◌, subst}
 use Rattle.px_lex.specs.declared.token.Token.{Token}
-use Rattle.px_parse.specs.declared.lexeme.Lexeme.{Lexeme}
+use Rattle.px_words.specs.declared.lexeme.Lexeme.{Lexeme}
 use Rattle.px_accept.specs.declared.role.Role.{Role}
 use Rattle.px_accept.specs.Place as accept
-use Rattle.px_parse.specs.Roles.{roles_of}
+use Rattle.px_words.specs.Roles.{roles_of}
 use Rattle.px_lex.specs.Cutting.{tokens_of}
-use Rattle.px_parse.specs.Lexemes.{lexemes_of}
+use Rattle.px_words.specs.Lexemes.{lexemes_of}
 use Rattle.px_tree.specs.declared.Program.{Program}
 use Rattle.px_parse.specs.declared.whole.Declared.{Declared}
 use Rattle.px_tree.specs.Numbering.{numbered_classes}

@@ -2,14 +2,14 @@
 use Rattle.std.proofs.Common.{◌≡◌, ℕ, zero, suc, ◌<◌, ◌≤◌, length, Bool, true, false, if◌then◌else◌, List, [], ◌∷◌, ◌++◌, Option, Some, OnSome, Result, Ok, Err, refl, sym, ap, ◌∙◌, subst, arith}
 use Rattle.std.proofs.lemmas.Bool.{false≢true}
 use Rattle.std.specs.Result.{IsErrAnd}
-use Rattle.px_parse.specs.declared.lexeme.Word.{Word}
-use Rattle.px_parse.specs.declared.lexeme.Word.TheVariants as w
-use Rattle.px_parse.specs.declared.lexeme.Lexeme.{Lexeme}
+use Rattle.px_words.specs.declared.lexeme.Word.{Word}
+use Rattle.px_words.specs.declared.lexeme.Word.TheVariants as w
+use Rattle.px_words.specs.declared.lexeme.Lexeme.{Lexeme}
 use Rattle.px_tree.specs.declared.Expr.{Expr}
 use Rattle.px_tree.specs.declared.Stmt.{Stmt}
 use Rattle.px_parse.specs.declared.error.ReadError.{ReadError}
 use Rattle.px_parse.specs.declared.error.ReadError.TheVariants.{Unreadable, NoMemory}
-use Rattle.px_parse.specs.Words.{prefix_sign, binary_sign}
+use Rattle.px_words.specs.Words.{prefix_sign, binary_sign}
 use Rattle.px_parse.specs.Reading.{State, Read, Reads, and_then, ◌>>=◌, next_word, same_word, sees, take, repeated, next_argument, postfix_on, postfixes, postfix, operand_on, operand, operator_on, operators, joined, expression, place, by_word, simple_on, simple, Gives, Fails}
 use Rattle.px_parse.proofs.Leading.{gives_as}
 

@@ -1,11 +1,11 @@
 -- An operator and an operand behind an expression: the tree of the whole.
 use Rattle.std.proofs.Common.{◌≡◌, inl, inr, ℕ, ◌≤◌, ◌<◌, List, ◌∷◌, ◌++◌, Some, sym, subst, append_assoc, arith}
 use Rattle.std.proofs.lemmas.Bool.{cases_lt}
-use Rattle.px_parse.specs.declared.lexeme.Lexeme.{Lexeme}
+use Rattle.px_words.specs.declared.lexeme.Lexeme.{Lexeme}
 use Rattle.px_tree.specs.declared.Sign.{Sign}
 use Rattle.px_tree.specs.declared.Sign.TheVariants as sign
 use Rattle.px_tree.specs.declared.Expr.{Expr}
-use Rattle.px_parse.specs.Words.{binary_sign, level, tightest}
+use Rattle.px_words.specs.Words.{binary_sign, level, tightest}
 use Rattle.px_parse.specs.Trees.{binary_of}
 use Rattle.px_parse.specs.Grammar as g
 use Rattle.px_parse.specs.Grammar.{SpellsExpression, SpellsOperand}

@@ -1,21 +1,21 @@
 -- What the role of a word tells of the word.
 use Rattle.std.proofs.Common.{◌≡◌, ◌⊎◌, inl, inr, Bool, true, false, List, [], ◌∷◌, Option, Some, None, is_some, refl, sym, ap, subst}
-use Rattle.px_parse.specs.declared.lexeme.Lexeme.{Lexeme}
-use Rattle.px_parse.specs.declared.lexeme.Word.{Word}
-use Rattle.px_parse.specs.declared.lexeme.Word.TheVariants as w
+use Rattle.px_words.specs.declared.lexeme.Lexeme.{Lexeme}
+use Rattle.px_words.specs.declared.lexeme.Word.{Word}
+use Rattle.px_words.specs.declared.lexeme.Word.TheVariants as w
 use Rattle.px_tree.specs.declared.Sign.{Sign}
 use Rattle.px_tree.specs.declared.Sign.TheVariants as sign
 use Rattle.px_tree.specs.declared.ExprForm.{ExprForm}
 use Rattle.px_tree.specs.declared.ExprForm.TheVariants as e
-use Rattle.px_parse.specs.Lexemes.{is_name}
+use Rattle.px_words.specs.Lexemes.{is_name}
 use Rattle.px_accept.specs.declared.role.Role.{Role}
 use Rattle.px_accept.specs.declared.role.Role.TheVariants as r
 use Rattle.px_accept.specs.declared.role.Spelling.{Spelling}
 use Rattle.px_accept.specs.declared.role.Spelling.TheVariants as s
 use Rattle.px_accept.specs.Grammar as g
-use Rattle.px_parse.specs.Words.{binary_sign, prefix_sign, cast_sign, compound_sign, is_base, is_column_type}
+use Rattle.px_words.specs.Words.{binary_sign, prefix_sign, cast_sign, compound_sign, is_base, is_column_type}
 use Rattle.px_parse.specs.Trees.{word_form}
-use Rattle.px_parse.specs.Roles.{role_of, roles_of}
+use Rattle.px_words.specs.Roles.{role_of, roles_of}
 
 -- the one word of a role, where it has just one
 abbrev pub only_word : Role → Option Word

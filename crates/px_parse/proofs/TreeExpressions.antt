@@ -1,12 +1,12 @@
 -- Lexemes whose roles are a type or an expression spell one.
 use Rattle.std.proofs.Common.{◌≢◌, ℕ, List, [], ◌∷◌, ◌++◌, refl, append_assoc}
-use Rattle.px_parse.specs.declared.lexeme.Lexeme.{Lexeme}
-use Rattle.px_parse.specs.declared.lexeme.Word.TheVariants as w
+use Rattle.px_words.specs.declared.lexeme.Lexeme.{Lexeme}
+use Rattle.px_words.specs.declared.lexeme.Word.TheVariants as w
 use Rattle.px_accept.specs.declared.role.Role.{Role}
 use Rattle.px_accept.specs.declared.role.Role.TheVariants as r
 use Rattle.px_accept.specs.declared.role.Spelling.{Spelling}
 use Rattle.px_accept.specs.Grammar as f
-use Rattle.px_parse.specs.Words.{tightest}
+use Rattle.px_words.specs.Words.{tightest}
 use Rattle.px_parse.specs.Trees.{single_type_of, array_type_of, expression_of, number_of, text_of, variable_of, group_of, field_of, element_of, own_call_of, call_of, object_of, array_of, prefix_of}
 use Rattle.px_parse.specs.Grammar as g
 use Rattle.px_parse.proofs.RolesOf.{IsValue, number, text, word, base_is, infix_is, prefix_is, cast_is, value_is}

@@ -1,7 +1,7 @@
 -- Lexemes whose roles are a program spell one.
 use Rattle.std.proofs.Common.{◌≡◌, ℕ, false, List, [], ◌∷◌, ◌++◌, refl, sym, ap, ◌∙◌, append_assoc}
-use Rattle.px_parse.specs.declared.lexeme.Lexeme.{Lexeme}
-use Rattle.px_parse.specs.declared.lexeme.Word.TheVariants as w
+use Rattle.px_words.specs.declared.lexeme.Lexeme.{Lexeme}
+use Rattle.px_words.specs.declared.lexeme.Word.TheVariants as w
 use Rattle.px_accept.specs.declared.role.Role.{Role}
 use Rattle.px_accept.specs.declared.role.Role.TheVariants as r
 use Rattle.px_accept.specs.Grammar as f
@@ -10,7 +10,7 @@ use Rattle.px_accept.specs.Place.{IsProgram}
 use Rattle.px_parse.specs.declared.whole.Declared.{Declared}
 use Rattle.px_parse.specs.Grammar as g
 use Rattle.px_parse.specs.Grammar.{SpellsProgram}
-use Rattle.px_parse.specs.Roles.{roles_of}
+use Rattle.px_words.specs.Roles.{roles_of}
 use Rattle.px_parse.proofs.PartsOf.{cut, final}
 use Rattle.px_parse.proofs.MadeOf.{Makes}
 use Rattle.px_parse.proofs.TreeExpressions.{made_base, made_array_type, made_operand, made_infix, made_prefix, made_cast, made_postfix, made_value, made_name, made_own_call, made_group, made_new_object, made_new_array, made_dot, made_dot_call, made_index, made_arguments, made_no_expression, made_expressions, made_no_more, made_more}

@@ -1,7 +1,7 @@
 -- Lexemes whose roles are a member, a class or a table spell one.
 use Rattle.std.proofs.Common.{◌≡◌, ℕ, List, [], ◌∷◌, ◌++◌, Some, None, refl, append_assoc}
-use Rattle.px_parse.specs.declared.lexeme.Lexeme.{Lexeme}
-use Rattle.px_parse.specs.declared.lexeme.Word.TheVariants as w
+use Rattle.px_words.specs.declared.lexeme.Lexeme.{Lexeme}
+use Rattle.px_words.specs.declared.lexeme.Word.TheVariants as w
 use Rattle.px_tree.specs.declared.Access.TheVariants as access
 use Rattle.px_tree.specs.declared.Class.{Class}
 use Rattle.px_accept.specs.declared.role.Role.{Role}
@@ -12,7 +12,7 @@ use Rattle.px_accept.specs.Grammar as f
 use Rattle.px_parse.specs.Trees.{first_token, param_of, field_declaration_of, method_with, block_of, class_of, column_of, table_of}
 use Rattle.px_parse.specs.Grammar as g
 use Rattle.px_parse.specs.Grammar.{SpellsAccess, SpellsClass, SpellsPublic, SpellsMembers, SpellsTable}
-use Rattle.px_parse.specs.Roles.{roles_of}
+use Rattle.px_words.specs.Roles.{roles_of}
 use Rattle.px_parse.proofs.RolesOf.{column_is}
 use Rattle.px_parse.proofs.PartsOf.{first, cut, key, final, named, none}
 use Rattle.px_parse.proofs.MadeOf.{Makes, made_at}

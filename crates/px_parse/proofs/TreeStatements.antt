@@ -1,7 +1,7 @@
 -- Lexemes whose roles are a statement spell one.
 use Rattle.std.proofs.Common.{◌≡◌, inl, inr, ℕ, Bool, true, false, List, [], ◌∷◌, ◌++◌, Some, None, refl, sym, ap, ◌∙◌, append_assoc}
-use Rattle.px_parse.specs.declared.lexeme.Lexeme.{Lexeme}
-use Rattle.px_parse.specs.declared.lexeme.Word.TheVariants as w
+use Rattle.px_words.specs.declared.lexeme.Lexeme.{Lexeme}
+use Rattle.px_words.specs.declared.lexeme.Word.TheVariants as w
 use Rattle.px_tree.specs.declared.Stmt.{Stmt}
 use Rattle.px_accept.specs.declared.role.Role.{Role}
 use Rattle.px_accept.specs.declared.role.Role.TheVariants as r
@@ -12,7 +12,7 @@ use Rattle.px_accept.specs.Grammar.{begins_print}
 use Rattle.px_parse.specs.Trees.{block_of, empty_of, local_of, assignment_of, compound_of, up_of, down_of, call_statement_of, if_of, while_of, for_of, return_of, print_of}
 use Rattle.px_parse.specs.Grammar as g
 use Rattle.px_parse.specs.Grammar.{SpellsLocal, is_print, words_of}
-use Rattle.px_parse.specs.Roles.{roles_of}
+use Rattle.px_words.specs.Roles.{roles_of}
 use Rattle.px_parse.proofs.RolesOf.{compound_is, step_is}
 use Rattle.px_parse.proofs.PartsOf.{first, cut, key, final, named, none}
 use Rattle.px_parse.proofs.PrintFronts.{no_print_by_words}

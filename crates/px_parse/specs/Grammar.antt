@@ -1,9 +1,9 @@
 -- The grammar, a part of Java's (JLS SE 8, chapters 8, 14 and 15): which lexemes spell which tree. A
 -- constructor is a rule. `source` is the text, for the spelling of names and literals; numbers `id` are 0.
 use Rattle.std.specs.Prelude.{◌≡◌, ◌≢◌, ◌≤◌, ◌<◌, ℕ, Bool, true, false, List, [], ◌∷◌, ◌++◌, Option, Some, None}
-use Rattle.px_parse.specs.declared.lexeme.Lexeme.{Lexeme}
-use Rattle.px_parse.specs.declared.lexeme.Word.{Word}
-use Rattle.px_parse.specs.declared.lexeme.Word.TheVariants as w
+use Rattle.px_words.specs.declared.lexeme.Lexeme.{Lexeme}
+use Rattle.px_words.specs.declared.lexeme.Word.{Word}
+use Rattle.px_words.specs.declared.lexeme.Word.TheVariants as w
 use Rattle.px_tree.specs.declared.Sign.{Sign}
 use Rattle.px_tree.specs.declared.Expr.{Expr}
 use Rattle.px_tree.specs.declared.ExprForm.{ExprForm}
@@ -17,8 +17,8 @@ use Rattle.px_tree.specs.declared.Class.{Class}
 use Rattle.px_tree.specs.declared.Column.{Column}
 use Rattle.px_tree.specs.declared.TableDecl.{TableDecl}
 use Rattle.px_parse.specs.declared.whole.Declared.{Declared}
-use Rattle.px_parse.specs.Lexemes.{is_name}
-use Rattle.px_parse.specs.Words.{binary_sign, level, tightest, prefix_sign, cast_sign, compound_sign, is_base, is_column_type}
+use Rattle.px_words.specs.Lexemes.{is_name}
+use Rattle.px_words.specs.Words.{binary_sign, level, tightest, prefix_sign, cast_sign, compound_sign, is_base, is_column_type}
 use Rattle.px_parse.specs.Trees.{first_token, single_type_of, array_type_of, expression_of, number_of, text_of, word_form, variable_of, group_of, field_of, element_of, own_call_of, call_of, object_of, array_of, prefix_of, binary_of, block_of, empty_of, local_of, assignment_of, compound_of, up_of, down_of, call_statement_of, if_of, while_of, for_of, return_of, print_of, param_of, field_declaration_of, method_with, class_of, column_of, table_of}
 
 -- ---- types

@@ -1,7 +1,7 @@
 -- What an expression begins with, before an expression in it is read, and how reading goes on behind it.
 use Rattle.std.specs.Prelude.{◌≡◌, ℕ, ◌+◌, List, Option, Some, None, Result, Ok, Err}
-use Rattle.px_parse.specs.declared.lexeme.Word.{Word}
-use Rattle.px_parse.specs.declared.lexeme.Word.TheVariants as w
+use Rattle.px_words.specs.declared.lexeme.Word.{Word}
+use Rattle.px_words.specs.declared.lexeme.Word.TheVariants as w
 use Rattle.px_tree.specs.declared.Expr.{Expr}
 use Rattle.px_parse.specs.declared.heads.Head.{Head}
 use Rattle.px_parse.specs.declared.heads.Head.TheVariants as head
@@ -12,7 +12,7 @@ use Rattle.px_parse.specs.declared.heads.Operator.{Operator}
 use Rattle.px_parse.specs.declared.error.ReadError.{ReadError}
 use Rattle.px_parse.specs.Reading.{Read, Reads, ◌>>=◌, ◌>>◌, pure, expect, own_call, member_call, Fails}
 use Rattle.px_parse.specs.Trees.{group_of, field_of, element_of, array_of, prefix_of, binary_of}
-use Rattle.px_parse.specs.Words.{level}
+use Rattle.px_words.specs.Words.{level}
 
 -- Reading the whole is reading what is behind the part that was read, unless memory ran out.
 abbrev pub Leads : {A B : Type 0} → Read B → Result A ReadError → (A → Read B) → Type 0

@@ -1,6 +1,6 @@
 -- Laws of the definitions.
 use Rattle.std.specs.Prelude.{◌≡◌, ℕ, List, [], Some}
-use Rattle.px_parse.specs.declared.lexeme.Lexeme.{Lexeme}
+use Rattle.px_words.specs.declared.lexeme.Lexeme.{Lexeme}
 use Rattle.px_parse.specs.declared.whole.Declared.{Declared}
 use Rattle.px_parse.specs.Grammar.{SpellsProgram}
 use Rattle.px_parse.specs.Reading.{program}

@@ -1,6 +1,3 @@
-pub mod Lexemes
-pub mod Words
-pub mod Roles
 pub mod Trees
 pub mod Grammar
 pub mod Reading

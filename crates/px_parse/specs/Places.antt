@@ -2,13 +2,13 @@
 use Rattle.std.specs.Prelude.{◌≡◌, ℕ, ◌+◌, ◌-◌, ◌<◌, ◌≤◌, ◌⊎◌, List, ◌++◌, length, map, take}
 use Rattle.std.specs.List.{slice_index_or}
 use Rattle.px_lex.specs.declared.token.Token.{Token}
-use Rattle.px_parse.specs.declared.lexeme.Lexeme.{Lexeme}
+use Rattle.px_words.specs.declared.lexeme.Lexeme.{Lexeme}
 use Rattle.px_lex.specs.Cutting.{tokens_of}
-use Rattle.px_parse.specs.Lexemes.{lexemes_of}
+use Rattle.px_words.specs.Lexemes.{lexemes_of}
 use Rattle.px_accept.specs.Place as accept
 use Rattle.px_parse.specs.declared.whole.Declared.{Declared}
 use Rattle.px_parse.specs.Grammar.{SpellsProgram}
-use Rattle.px_parse.specs.Roles.{roles_of}
+use Rattle.px_words.specs.Roles.{roles_of}
 
 -- some program begins with these lexemes
 pub record BeginsProgram (source : List ℕ) (xs : List Lexeme) : Type 0 where

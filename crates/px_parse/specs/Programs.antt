@@ -1,7 +1,7 @@
 -- What the program of a text is.
 use Rattle.std.specs.Prelude.{◌≡◌, ℕ, List, Option, Some, None}
 use Rattle.px_lex.specs.Cutting.{tokens_of}
-use Rattle.px_parse.specs.Lexemes.{lexemes_of}
+use Rattle.px_words.specs.Lexemes.{lexemes_of}
 use Rattle.px_tree.specs.declared.Program.{Program}
 use Rattle.px_parse.specs.declared.whole.Declared.{Declared}
 use Rattle.px_parse.specs.Grammar.{SpellsProgram}

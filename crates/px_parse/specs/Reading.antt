@@ -2,10 +2,10 @@
 -- tells them how to go on.
 use Rattle.std.specs.Prelude.{◌≡◌, ℕ, zero, suc, ◌+◌, ◌&&◌, ◌||◌, Bool, not, nat_le, List, [], ◌∷◌, ◌++◌, length, drop, Option, Some, None, Result, Ok, Err, if◌then◌else◌}
 use denote.Enum.Bare.{sameb}
-use Rattle.px_parse.specs.contracts.lexeme.Word.{the_type}
-use Rattle.px_parse.specs.declared.lexeme.Lexeme.{Lexeme}
-use Rattle.px_parse.specs.declared.lexeme.Word.{Word}
-use Rattle.px_parse.specs.declared.lexeme.Word.TheVariants as w
+use Rattle.px_words.specs.contracts.lexeme.Word.{the_type}
+use Rattle.px_words.specs.declared.lexeme.Lexeme.{Lexeme}
+use Rattle.px_words.specs.declared.lexeme.Word.{Word}
+use Rattle.px_words.specs.declared.lexeme.Word.TheVariants as w
 use Rattle.px_tree.specs.declared.Sign.{Sign}
 use Rattle.px_tree.specs.declared.Sign.TheVariants as sign
 use Rattle.px_tree.specs.declared.Access.{Access}
@@ -27,8 +27,8 @@ use Rattle.px_parse.specs.declared.error.ReadError.TheVariants.{Unreadable, NoMe
 use Rattle.px_parse.specs.declared.parts.Turns.{Turns}
 use Rattle.px_parse.specs.declared.parts.Braces.{Braces}
 use Rattle.px_parse.specs.declared.whole.Declared.{Declared}
-use Rattle.px_parse.specs.Lexemes.{is_name}
-use Rattle.px_parse.specs.Words.{binary_sign, level, prefix_sign, compound_sign, is_primitive}
+use Rattle.px_words.specs.Lexemes.{is_name}
+use Rattle.px_words.specs.Words.{binary_sign, level, prefix_sign, compound_sign, is_primitive, cast_to}
 use Rattle.px_parse.specs.Trees.{first_token, single_type_of, array_type_of, expression_of, number_of, text_of, word_form, variable_of, group_of, field_of, element_of, own_call_of, call_of, object_of, array_of, prefix_of, binary_of, statement_of, block_of, empty_of, local_of, assignment_of, call_statement_of, if_of, while_of, for_of, return_of, print_of, param_of, field_declaration_of, method_with, class_of, column_of, table_of}
 
 -- the lexemes that are left
@@ -235,10 +235,6 @@ postfix source inner n = primary source inner >>= postfixes source inner n
 -- an opening parenthesis and a type of numbers
 abbrev pub is_cast : State → Bool
 is_cast xs = same_word (next_word xs) w.Open && (same_word (word_ahead 1 xs) w.Int || same_word (word_ahead 1 xs) w.Long)
-
-abbrev pub cast_to : Word → Sign
-cast_to w.Int = sign.ToInt
-cast_to _ = sign.ToLong
 
 unfoldable pub cast : Reads Expr → Reads Expr
 cast operand = do

@@ -4,12 +4,12 @@ ghost use Rattle.px_parse.specs.Reading as spec;
 ghost use Rattle.px_parse.specs.Reading.{Gives};
 
 use crate::error::ReadError;
-use crate::lexeme::{Lexeme, Word};
 use crate::nodes::{block_of, for_of, if_of, while_of};
 use crate::parts::Braces;
 use crate::source::Source;
 use crate::tokens::Tokens;
 use px_tree::{Expr, Stmt};
+use px_words::{Lexeme, Word};
 use sqlite_items::{Boxed, Items};
 
 impl Source<'_> {

@@ -5,11 +5,11 @@ ghost use Rattle.px_parse.specs.Reading.{Gives, Finds};
 ghost use Rattle.px_parse.specs.Trees as tree;
 
 use crate::error::ReadError;
-use crate::lexeme::{Lexeme, Word};
 use crate::source::Source;
 use crate::tokens::Tokens;
 use crate::whole::Declared;
 use px_tree::{Class, Column, Member, TableDecl};
+use px_words::{Lexeme, Word};
 use sqlite_items::Items;
 use std::alloc::AllocError;
 

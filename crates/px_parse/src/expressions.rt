@@ -6,11 +6,10 @@ ghost use Rattle.px_parse.specs.Heads as heads;
 
 use crate::error::ReadError;
 use crate::heads::{Head, Suffix, read_operator, read_prefix, read_suffix};
-use crate::lexeme::Word;
-use crate::signs::right_level;
 use crate::source::Source;
 use crate::tokens::Tokens;
 use px_tree::Expr;
+use px_words::{Word, right_level};
 use sqlite_items::Items;
 
 impl Source<'_> {

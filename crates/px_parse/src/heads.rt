@@ -3,17 +3,16 @@ ghost use Rattle.std.specs.Prelude.{◌≡◌, ◌<◌, ◌≤◌, ℕ, List, So
 ghost use Rattle.px_parse.specs.Reading as spec;
 ghost use Rattle.px_parse.specs.Reading.{Reads};
 ghost use Rattle.px_parse.specs.Trees as tree;
-ghost use Rattle.px_parse.specs.Words as words;
+ghost use Rattle.px_words.specs.Words as words;
 ghost use Rattle.px_tree.specs.declared.Expr.{Expr};
 ghost use Rattle.px_parse.specs.Heads.{Leads, behind_head, behind_prefix, behind_suffix, behind_suffixes, behind_operator};
 
 use crate::error::ReadError;
-use crate::lexeme::{Lexeme, Word};
 use crate::nodes::{expression_of, word_form};
-use crate::signs::{binary_sign, cast_to, level, prefix_sign};
 use crate::source::Source;
 use crate::tokens::Tokens;
 use px_tree::{Expr, Sign};
+use px_words::{Lexeme, Word, binary_sign, cast_to, level, prefix_sign};
 
 /// The begin of an expression without operators.
 #[derive(Drop)]

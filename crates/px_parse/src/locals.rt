@@ -3,13 +3,13 @@ ghost use Rattle.std.specs.Prelude.{◌≡◌, ◌<◌, length, OnOk, IfOk};
 ghost use Rattle.px_parse.specs.Reading as spec;
 ghost use Rattle.px_parse.specs.Reading.{Gives};
 ghost use Rattle.px_parse.specs.Trees as tree;
-ghost use Rattle.px_parse.specs.Words as words;
+ghost use Rattle.px_words.specs.Words as words;
 
 use crate::error::ReadError;
-use crate::lexeme::{Lexeme, Word};
 use crate::source::Source;
 use crate::tokens::Tokens;
 use px_tree::{Expr, Stmt, StmtForm, TypeName};
+use px_words::{Lexeme, Word};
 use std::alloc::AllocError;
 
 fn is_primitive(word: Word) -> bool

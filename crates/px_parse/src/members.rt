@@ -5,12 +5,12 @@ ghost use Rattle.px_parse.specs.Reading.{Gives};
 ghost use Rattle.px_parse.specs.Trees as tree;
 
 use crate::error::ReadError;
-use crate::lexeme::{Lexeme, Word};
 use crate::nodes::block_of;
 use crate::parts::Braces;
 use crate::source::Source;
 use crate::tokens::Tokens;
 use px_tree::{Access, FieldDecl, Member, Method, Param, TypeName};
+use px_words::{Lexeme, Word};
 use sqlite_items::Items;
 use std::alloc::AllocError;
 

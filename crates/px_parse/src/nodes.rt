@@ -2,10 +2,10 @@
 ghost use Rattle.std.specs.Prelude.{◌≡◌, IfOk, None, Some};
 ghost use Rattle.px_parse.specs.Trees as tree;
 
-use crate::lexeme::{Lexeme, Word};
 use crate::parts::{Braces, Turns};
 use crate::source::Source;
 use px_tree::{Expr, ExprForm, Sign, Stmt, StmtForm};
+use px_words::{Lexeme, Word};
 use sqlite_items::{Boxed, Items};
 use std::alloc::AllocError;
 

@@ -1,6 +1,6 @@
 //! Parts of statements that hold statements.
-use crate::lexeme::Lexeme;
 use px_tree::{Expr, Stmt};
+use px_words::Lexeme;
 use sqlite_items::{Boxed, Items};
 
 /// The parentheses of a `for`.

@@ -2,20 +2,18 @@
 ghost use Rattle.std.specs.Prelude.{◌≡◌, ◌<◌, ◌^◌, ℕ, length, option_map, IfOk};
 ghost use Rattle.px_lex.specs.Cutting.{tokens_of};
 ghost use Rattle.px_parse.specs.Grammar.{SpellsProgram};
-ghost use Rattle.px_parse.specs.Lexemes.{lexemes_of};
+ghost use Rattle.px_words.specs.Lexemes.{lexemes_of};
 ghost use Rattle.px_parse.specs.Places as places;
 ghost use Rattle.px_parse.specs.Places.{IsRefusedAt};
 ghost use Rattle.px_parse.specs.Programs.{IsJudged, IsProgram, IsProgramText};
 
 use crate::error::{ParseError, ReadError};
-use crate::lexeme::Lexeme;
-use crate::roles::roles;
 use crate::source::Source;
 use crate::whole::Declared;
-use crate::word::lexemes;
 use px_accept::first_refused;
 use px_lex::Token;
 use px_tree::{Program, number};
+use px_words::{Lexeme, lexemes, roles};
 use sqlite_items::Items;
 use std::alloc::{AllocError, Global};
 

@@ -3,16 +3,15 @@ ghost use Rattle.std.specs.Prelude.{◌≡◌, ◌<◌, ◌≤◌, length, Some,
 ghost use Rattle.px_parse.specs.Reading as spec;
 ghost use Rattle.px_parse.specs.Reading.{Gives};
 ghost use Rattle.px_parse.specs.Trees as tree;
-ghost use Rattle.px_parse.specs.Words as words;
+ghost use Rattle.px_words.specs.Words as words;
 ghost use Rattle.px_tree.specs.declared.ExprForm.{out-ExprForm};
 ghost use Rattle.px_tree.specs.declared.StmtForm.TheVariants as s;
 
 use crate::error::ReadError;
-use crate::lexeme::Word;
-use crate::signs::compound_sign;
 use crate::source::Source;
 use crate::tokens::Tokens;
 use px_tree::{Expr, ExprForm, Name, Sign, Stmt, StmtForm};
+use px_words::{Word, compound_sign};
 
 // The name that a name alone is.
 fn bare_name(form: ExprForm) -> Option<Name>

@@ -1,11 +1,11 @@
 //! The text that is read.
-ghost use Rattle.std.specs.Prelude.{◌≡◌, ◌-◌, false, take, drop, length, IfOk};
-ghost use Rattle.px_parse.specs.Lexemes.{spelled};
+ghost use Rattle.std.specs.Prelude.{◌≡◌, IfOk};
+ghost use Rattle.px_lex.specs.Spelling.{spelled};
 ghost use Rattle.px_parse.specs.Trees as spec;
 
-use crate::lexeme::{Lexeme, Word};
 use px_lex::spelling;
 use px_tree::{Base, Expr, ExprForm, Name, TypeName};
+use px_words::{Lexeme, Word, digits, inside, is_long, unescaped};
 use sqlite_items::Items;
 use std::alloc::{AllocError, Global};
 
@@ -14,61 +14,6 @@ use std::alloc::{AllocError, Global};
 pub struct Source<'a> {
     pub alloc: Global,
     pub bytes: &'a [u8],
-}
-
-fn is_long(spelling: &[u8]) -> bool
-    ensures { result ≡ spec.is_long spelling.now }
-{
-    matches!(spelling, [.., b'L' | b'l'])
-}
-
-fn digits(spelling: &[u8]) -> &[u8]
-    ensures { result.now ≡ spec.digits_of spelling.now }
-{
-    if is_long(spelling) {
-        &spelling[..spelling.len() - 1]
-    } else {
-        spelling
-    }
-}
-
-// The byte that a backslash and a letter stand for.
-fn escape(letter: u8) -> u8
-    ensures { result ≡ spec.escape_of letter }
-{
-    match letter {
-        b'n' => b'\n',
-        b't' => b'\t',
-        other => other,
-    }
-}
-
-// What stands between two quotes.
-fn inside(spelling: &[u8]) -> &[u8]
-    ensures { result.now ≡ take (length spelling.now - 2) (drop 1 spelling.now) }
-{
-    match spelling {
-        [_, inside @ .., _] => inside,
-        _ => &[],
-    }
-}
-
-fn unescaped(alloc: Global, bytes: &[u8]) -> Result<Items<u8>, AllocError>
-    ensures { IfOk result (λ text. text ≡ spec.text_from false bytes.now) }
-{
-    let mut text = Vec::new(alloc);
-    let mut escaped = false;
-    for byte in bytes {
-        if escaped {
-            text.push(escape(*byte))?;
-            escaped = false;
-        } else if *byte == b'\\' {
-            escaped = true;
-        } else {
-            text.push(*byte)?;
-        }
-    }
-    Ok(Items::from_vec(text))
 }
 
 impl Source<'_> {

@@ -4,12 +4,12 @@ ghost use Rattle.px_parse.specs.Reading as spec;
 ghost use Rattle.px_parse.specs.Reading.{Gives};
 
 use crate::error::ReadError;
-use crate::lexeme::Word;
 use crate::nodes::{empty_of, print_of, return_of};
 use crate::parts::Turns;
 use crate::source::Source;
 use crate::tokens::Tokens;
 use px_tree::{Expr, Stmt};
+use px_words::Word;
 use sqlite_items::Boxed;
 
 impl Tokens<'_> {

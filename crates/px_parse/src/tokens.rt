@@ -5,7 +5,7 @@ ghost use Rattle.px_parse.specs.Reading.{Gives};
 ghost use Rattle.px_parse.specs.Trees.{first_token};
 
 use crate::error::ReadError;
-use crate::lexeme::{Lexeme, Word};
+use px_words::{Lexeme, Word};
 
 #[derive(Drop)]
 pub struct Tokens<'a> {

@@ -4,10 +4,10 @@ ghost use Rattle.px_parse.specs.Reading as spec;
 ghost use Rattle.px_parse.specs.Reading.{Gives};
 
 use crate::error::ReadError;
-use crate::lexeme::{Lexeme, Word};
 use crate::source::Source;
 use crate::tokens::Tokens;
 use px_tree::TypeName;
+use px_words::{Lexeme, Word};
 
 impl Source<'_> {
     // Behind the type of an array's elements.

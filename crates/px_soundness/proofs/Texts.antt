@@ -1,9 +1,9 @@
 -- The programs of texts are numbered trees.
 use Rattle.std.proofs.Common.{◌≡◌, ℕ, ◌+◌, Bool, false, List, [], ◌∷◌, ◌++◌, map, Option, Some, None, refl, sym, ap, ◌∙◌, subst}
-use Rattle.px_parse.specs.declared.lexeme.Lexeme.{Lexeme}
-use Rattle.px_parse.specs.declared.lexeme.Word.{Word}
-use Rattle.px_parse.specs.declared.lexeme.Word.TheVariants as w
-use Rattle.px_parse.specs.Words.{binary_sign, prefix_sign, cast_sign}
+use Rattle.px_words.specs.declared.lexeme.Lexeme.{Lexeme}
+use Rattle.px_words.specs.declared.lexeme.Word.{Word}
+use Rattle.px_words.specs.declared.lexeme.Word.TheVariants as w
+use Rattle.px_words.specs.Words.{binary_sign, prefix_sign, cast_sign}
 use Rattle.px_parse.specs.Trees.{base_by, base_of, single_type_of, array_type_of, word_form, expression_of, name_of, block_of, first_token}
 use Rattle.px_parse.specs.Grammar.{SpellsType, Ending, SpellsExpression, SpellsOperand, SpellsPostfix, SpellsArguments, SpellsMoreArguments, SpellsSimple, SpellsLocal, SpellsFirst, SpellsStatement, SpellsItem, SpellsItems, SpellsResult, SpellsParam, SpellsMoreParams, SpellsParams, SpellsMember, SpellsMembers, SpellsClass, SpellsClasses, SpellsProgram}
 use Rattle.px_parse.specs.declared.whole.Declared.{Declared}

@@ -4,12 +4,12 @@ ghost use Rattle.px_flow_points.specs.There.{NumbersExist};
 
 use px_blocks::{Placed, Send, SendKind, Side};
 use px_flow_points::points_to;
-use px_parse::parse;
 use px_lowering::lower;
 use px_normal::{Code, Operand};
+use px_parse::parse;
 use px_plan::{CompileError, compile};
-use px_types::check;
 use px_sql::read_schema;
+use px_types::check;
 use sqlite_items::Items;
 use std::alloc::{AllocError, Global};
 

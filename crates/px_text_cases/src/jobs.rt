@@ -2,11 +2,11 @@
 use itoa::Buffer;
 use px_code::Side;
 use px_facts::Checked;
-use px_parse::parse;
 use px_job::{Job, JobCode, JobError, JobFault, first_beyond, read_job};
 use px_lowering::lower;
-use px_types::check;
+use px_parse::parse;
 use px_sql::read_schema;
+use px_types::check;
 use px_value::{Column, ColumnType, Schema, Table, Text};
 use sqlite_items::Items;
 use std::alloc::{AllocError, Global};

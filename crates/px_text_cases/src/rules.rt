@@ -1,9 +1,9 @@
 //! What of the type rules and of SQL no clause says: which reading of a rule is meant. A case is a text and the line and the
 //! code of its first breach.
 use px_parse::{line_at, parse};
-use px_types::{CheckError, check};
 use px_sql::{SchemaError, read_schema};
 use px_tree::Program;
+use px_types::{CheckError, check};
 use sqlite_items::at;
 use std::alloc::{AllocError, Global};
 use std::process::Abort;

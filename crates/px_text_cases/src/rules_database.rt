@@ -1,8 +1,8 @@
 //! Calls of `Db`: which text and which values they take, and what is told of them.
 use crate::rules::{Case, all, read_program};
 use px_facts::{Element, Fact, Named, Operation, Ty};
-use px_types::check;
 use px_sql::read_schema;
+use px_types::check;
 use std::alloc::Global;
 use std::process::Abort;
 use std::test::Fail;

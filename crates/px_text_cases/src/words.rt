@@ -1,6 +1,6 @@
 //! What of tokens and identifiers no clause says.
 use px_lex::TokenKind::{Bad, End, Id, Key, Number, Sign, Str};
-use px_lex::{Token, TokenKind, Word, is_identifier, lex, lexemes};
+use px_lex::{Token, TokenKind, is_identifier, lex};
 use std::alloc::{AllocError, Global};
 
 // Kind, first byte, byte behind the last, line.
@@ -158,63 +158,6 @@ fn texts_have_these_tokens(rt: HostRuntime) -> Result<(), AllocError> {
             let found = (token.kind, token.from, token.to, token.line);
             assert_eq!(rt; found, *row, "at {text:?}");
         }
-    }
-    Ok(())
-}
-
-const WORDS: [(&[u8], &[Word]); 3] = [
-    (
-        b"class C { long x; } this .+-*",
-        &[
-            Word::Class,
-            Word::Name,
-            Word::OpenBrace,
-            Word::Long,
-            Word::Name,
-            Word::Semicolon,
-            Word::CloseBrace,
-            Word::This,
-            Word::Dot,
-            Word::Plus,
-            Word::Minus,
-            Word::Times,
-            Word::End,
-        ],
-    ),
-    (
-        b"( , ) throws 1 @",
-        &[
-            Word::Open,
-            Word::Comma,
-            Word::Close,
-            Word::Throws,
-            Word::Number,
-            Word::Bad,
-            Word::End,
-        ],
-    ),
-    // Tokens of the language that have no word of their own.
-    (
-        b"int \"a\" +=",
-        &[Word::Unbuilt, Word::Unbuilt, Word::Unbuilt, Word::End],
-    ),
-];
-
-fn words(alloc: Global, text: &[u8]) -> Result<Vec<Word>, AllocError> {
-    let tokens = cut(alloc, text)?;
-    let mut words = Vec::new(alloc);
-    if tokens.len() < 1 << 32 {
-        for lexeme in lexemes(alloc, text, &tokens)?.iter() {
-            words.push(lexeme.word)?;
-        }
-    }
-    Ok(words)
-}
-
-#[test]
-fn tokens_have_these_words(rt: HostRuntime) -> Result<(), AllocError> {
-    for (text, want) in WORDS {
-        assert_eq!(rt; words(rt.alloc(), text)?.as_slice(), want, "at {text:?}");
     }
     Ok(())
 }

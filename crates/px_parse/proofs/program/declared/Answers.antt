@@ -1,5 +1,5 @@
 use Rattle.std.proofs.Common.{List, Err, sym, ap, ◌∙◌, subst}
-use Rattle.px_parse.specs.declared.lexeme.Lexeme.{Lexeme}
+use Rattle.px_words.specs.declared.lexeme.Lexeme.{Lexeme}
 use Rattle.px_parse.specs.Grammar.{SpellsProgram}
 use Rattle.px_parse.proofs.Parsing.{found_tree, never_unreadable}
 use Rattle.px_parse.proofs.program.declared.Goals as goal

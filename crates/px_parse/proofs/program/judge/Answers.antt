@@ -1,6 +1,6 @@
 use Rattle.std.proofs.Common.{option_map, ap, ◌∙◌}
-use Rattle.px_parse.specs.Lexemes.{lexemes_of}
-use Rattle.px_parse.specs.Roles.{roles_of}
+use Rattle.px_words.specs.Lexemes.{lexemes_of}
+use Rattle.px_words.specs.Roles.{roles_of}
 use Rattle.px_parse.specs.Places.{line_at}
 use Rattle.px_parse.proofs.Parsing.{judged}
 use Rattle.px_parse.proofs.program.judge.Goals as goal

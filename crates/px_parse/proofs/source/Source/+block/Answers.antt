@@ -1,5 +1,5 @@
 use Rattle.std.proofs.Common.{◌+◌, ◌-◌, length, not, sym, ap, ◌∙◌, arith}
-use Rattle.px_parse.specs.declared.lexeme.Word.TheVariants as w
+use Rattle.px_words.specs.declared.lexeme.Word.TheVariants as w
 use Rattle.px_parse.specs.Reading.{item, statement, sees_no, braced, empty, conditional, while_loop, for_loop, returned, by_test, is_print, print, ended_by_semicolon, simple}
 use Rattle.px_parse.proofs.ReadTurns.{repeated_ends, exits}
 use Rattle.px_parse.proofs.Repeats.{repeated_done, repeated_step, repeated_turn, statement_turn, braced_word, empty_word, conditional_word, while_loop_word, for_loop_word, returned_word, other_statement}

@@ -1,5 +1,5 @@
 use Rattle.std.proofs.Common.{◌∙◌, ◌+◌, ◌<◌, suc, length, sym, ap, refl, Some, Ok, arith}
-use Rattle.px_parse.specs.declared.lexeme.Word.TheVariants as w
+use Rattle.px_words.specs.declared.lexeme.Word.TheVariants as w
 use Rattle.px_parse.specs.Reading.{and_then, expression, postfixes, operand, operators, postfix, next_argument, sees, take}
 use Rattle.px_parse.specs.Heads.{behind_suffix, behind_suffixes, behind_prefix, behind_operator}
 use Rattle.px_parse.specs.Trees.{binary_of}

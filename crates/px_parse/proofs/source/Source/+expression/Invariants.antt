@@ -1,6 +1,6 @@
 use Rattle.std.proofs.Common.{◌≡◌, ◌*◌, ◌+◌, ◌<◌, ◌≤◌, ℕ, length}
 use Rattle.px_parse.specs.Reading.{expression, some_arguments, next_argument, repeated, sees}
-use Rattle.px_parse.specs.declared.lexeme.Word.TheVariants as w
+use Rattle.px_words.specs.declared.lexeme.Word.TheVariants as w
 use Rattle.px_parse.proofs.source.Source.+expression.Given as goal
 
 abbrev pub decreases-primary : goal.decreases-primary

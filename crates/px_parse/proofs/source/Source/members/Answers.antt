@@ -1,5 +1,5 @@
 use Rattle.std.proofs.Common.{◌+◌, ◌-◌, length, not, ap, sym, ◌∙◌, arith}
-use Rattle.px_parse.specs.declared.lexeme.Word.TheVariants as w
+use Rattle.px_words.specs.declared.lexeme.Word.TheVariants as w
 use Rattle.px_parse.specs.Reading.{a_member, sees_no}
 use Rattle.px_parse.proofs.ReadTurns.{repeated_ends, exits}
 use Rattle.px_parse.proofs.Repeats.{repeated_done, repeated_step, repeated_turn}

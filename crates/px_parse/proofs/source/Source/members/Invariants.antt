@@ -1,5 +1,5 @@
 use Rattle.std.proofs.Common.{◌≡◌, ◌≤◌, ◌-◌, [], length}
-use Rattle.px_parse.specs.declared.lexeme.Word.TheVariants as w
+use Rattle.px_words.specs.declared.lexeme.Word.TheVariants as w
 use Rattle.px_parse.specs.Reading.{a_member, repeated, all_while, sees_no}
 use Rattle.px_parse.proofs.source.Source.members.Given as goal
 

@@ -1,5 +1,5 @@
 use Rattle.std.proofs.Common.{◌≡◌, ◌≤◌, ◌-◌, [], ◌∷◌, length}
-use Rattle.px_parse.specs.declared.lexeme.Word.TheVariants as w
+use Rattle.px_words.specs.declared.lexeme.Word.TheVariants as w
 use Rattle.px_parse.specs.Reading.{next_column, repeated, all_while, sees}
 use Rattle.px_parse.proofs.source.Source.more_columns.Given as goal
 

@@ -1,6 +1,0 @@
-use Rattle.std.proofs.Common.{◌≡◌, ◌++◌, drop}
-use Rattle.px_parse.specs.Roles.{roles_of}
-use Rattle.px_parse.proofs.roles.roles.Given as goal
-
-abbrev pub invariant-loop-x : goal.invariant-loop-x
-invariant-loop-x l = l.roles.items ++ roles_of (drop l.x-index l.lexemes) ≡ roles_of l.lexemes

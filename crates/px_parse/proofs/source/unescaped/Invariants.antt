@@ -1,6 +1,0 @@
-use Rattle.std.proofs.Common.{◌≡◌, ◌++◌, false, drop}
-use Rattle.px_parse.specs.Trees.{text_from}
-use Rattle.px_parse.proofs.source.unescaped.Given as goal
-
-abbrev pub invariant-loop-byte : goal.invariant-loop-byte
-invariant-loop-byte l = l.text.items ++ text_from l.escaped (drop l.byte-index l.bytes) ≡ text_from false l.bytes

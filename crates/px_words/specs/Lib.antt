@@ -1,0 +1,4 @@
+pub mod Lexemes
+pub mod Words
+pub mod Roles
+pub mod Literals
