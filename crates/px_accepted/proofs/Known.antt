@@ -9,7 +9,7 @@ use Rattle.px_tree.specs.declared.Member.TheVariants as member
 use Rattle.px_types.specs.declared.table.Table.{Table}
 use Rattle.px_types.specs.declared.classes.FieldType.{FieldType}
 use Rattle.px_types.specs.declared.classes.Members.{Members}
-use Rattle.px_types.specs.Breaches.{breach_if}
+use Rattle.px_type_rules.specs.Breaches.{breach_if}
 use Rattle.px_types.specs.Names.{empty, has_name}
 use Rattle.px_types.specs.Members.{no_members, field_type, with_member, class_members, numbers_of}
 use Rattle.px_types.specs.Programs.{field_names, method_names, members_notes, all_members, class_names, declared_notes, notes_of, first_breach_of}

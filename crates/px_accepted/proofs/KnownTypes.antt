@@ -16,7 +16,7 @@ use Rattle.px_types.specs.declared.classes.FieldType.{FieldType}
 use Rattle.px_types.specs.declared.classes.Members.{Members}
 use Rattle.px_types.specs.declared.locals.Locals.{Locals}
 use Rattle.px_types.specs.declared.scope.Scope.{Scope}
-use Rattle.px_types.specs.Breaches.{breach_if}
+use Rattle.px_type_rules.specs.Breaches.{breach_if}
 use Rattle.px_types.specs.Names.{find, has_name, reserves}
 use Rattle.px_types.specs.Members.{class_type, base_type, type_of, result_type, param_type, names_no_class, no_members, field_type, with_member, class_members}
 use Rattle.px_types.specs.Scopes.{with_local, local_notes}

@@ -11,10 +11,10 @@ use Rattle.px_facts.specs.declared.types.Ty.{Ty}
 use Rattle.px_facts.specs.declared.checked.Checked.{Checked}
 use Rattle.px_facts.specs.declared.checked.ClassFact.{ClassFact}
 use Rattle.px_facts.specs.declared.checked.MethodFact.{MethodFact}
-use Rattle.px_types.specs.declared.breach.Breach.{Breach}
+use Rattle.px_type_rules.specs.declared.breach.Breach.{Breach}
 use Rattle.px_types.specs.declared.table.Table.{Table}
 use Rattle.px_types.specs.declared.classes.Members.{Members}
-use Rattle.px_types.specs.Breaches.{Note, Fault, New, OneMethod, breach_if, at, least, is_before, breaches, max_news, max_methods}
+use Rattle.px_type_rules.specs.Breaches.{Note, Fault, New, OneMethod, breach_if, at, least, is_before, breaches, max_news, max_methods}
 use Rattle.px_types.specs.Names.{empty, has_name, declare, repeated, reserves}
 use Rattle.px_types.specs.Members.{no_members, with_member, numbers_of, classes_of}
 use Rattle.px_types.specs.Programs.{max_classes, max_fields, class_names, field_names, method_names, members_notes, all_members, declared_notes, notes_of, first_breach_of, main_notes, end_token, bodies}

@@ -21,9 +21,9 @@ use Rattle.px_types.specs.declared.scope.Scope.{Scope}
 use Rattle.px_types.specs.declared.scope.Slot.{Slot}
 use Rattle.px_types.specs.declared.database.Verb.{Verb}
 use Rattle.px_types.specs.declared.database.Verb.TheVariants as verb
-use Rattle.px_types.specs.Breaches.{breach_if}
-use Rattle.px_types.specs.Literals.{literal_type}
-use Rattle.px_types.specs.Operators.{is_minus, prefix_type, group_of, group_type}
+use Rattle.px_type_rules.specs.Breaches.{breach_if}
+use Rattle.px_type_rules.specs.Literals.{literal_type}
+use Rattle.px_type_rules.specs.Operators.{is_minus, prefix_type, group_of, group_type}
 use Rattle.px_types.specs.Names.{find}
 use Rattle.px_types.specs.Members.{base_type, class_type, names_no_class, method_of}
 use Rattle.px_types.specs.Scopes.{variable_type}

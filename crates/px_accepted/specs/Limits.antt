@@ -2,7 +2,7 @@
 use Rattle.std.specs.Prelude.{◌≡◌, ℕ, ◌+◌, ◌≤◌, ◌<◌, ◌^◌, List, length, Some}
 use Rattle.px_value.specs.declared.schema.Schema.{Schema}
 use Rattle.px_tree.specs.declared.Program.{Program}
-use Rattle.px_types.specs.Breaches.{max_methods}
+use Rattle.px_type_rules.specs.Breaches.{max_methods}
 use Rattle.px_types.specs.Programs.{max_classes, max_fields}
 use Rattle.px_types.specs.Methods.{max_tokens}
 use Rattle.px_types.specs.Checked.{checked_of}

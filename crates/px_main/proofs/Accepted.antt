@@ -10,7 +10,7 @@ use Rattle.px_facts.specs.declared.checked.Entry.{Entry}
 use Rattle.px_effects.specs.Run.{Ask}
 use Rattle.px_parse.specs.Programs.{IsProgram}
 use Rattle.px_sql.specs.Tables.{schema_of}
-use Rattle.px_types.specs.declared.breach.Breach.{Breach}
+use Rattle.px_type_rules.specs.declared.breach.Breach.{Breach}
 use Rattle.px_types.specs.Programs.{first_breach_of, max_fields}
 use Rattle.px_types.specs.Methods.{max_tokens}
 use Rattle.px_types.specs.Checked.{checked_of}

@@ -3,7 +3,7 @@ use Rattle.std.proofs.Common.{◌≡◌, ℕ, Option, Some, None, Ok, Err, sym, 
 use Rattle.std.specs.Option.{option_map}
 use Rattle.px_tree.specs.declared.Program.{Program}
 use Rattle.px_facts.specs.declared.checked.Checked.{Checked}
-use Rattle.px_types.specs.declared.breach.Breach.{Breach}
+use Rattle.px_type_rules.specs.declared.breach.Breach.{Breach}
 use Rattle.px_types.specs.declared.error.CheckError.{CheckError}
 use Rattle.px_types.specs.declared.error.CheckError.TheVariants.{TypeFault}
 use Rattle.px_types.specs.Programs.{first_breach_of}

@@ -8,7 +8,7 @@ use Rattle.px_parse.specs.Places.{line_at}
 use Rattle.px_sql.specs.Tables.{schema_of}
 use Rattle.px_value.specs.declared.schema.Schema.{Schema}
 use Rattle.px_tree.specs.declared.TableDecl.{TableDecl}
-use Rattle.px_types.specs.declared.breach.Breach.{Breach}
+use Rattle.px_type_rules.specs.declared.breach.Breach.{Breach}
 use Rattle.px_types.specs.Programs.{first_breach_of}
 use Rattle.px_types.specs.Checked.{checked_of, line_in}
 use Rattle.px_main.specs.declared.fault.Fault.{Fault}

@@ -2,8 +2,8 @@
 use Rattle.std.proofs.Common.{◌≡◌, ℕ, ◌+◌, Bool, true, false, not, ◌&&◌, ◌||◌, List, [], ◌∷◌, ◌++◌, Some, None, if◌then◌else◌, refl, sym}
 use Rattle.std.specs.Prelude.{nat_lt}
 use Rattle.std.proofs.lemmas.Bool.{true≢false}
-use Rattle.px_types.specs.declared.breach.Breach.{Breach}
-use Rattle.px_types.specs.Breaches.{Note, Fault, New, OneMethod, breach_if, at, least, breaches, is_before, max_news, max_methods}
+use Rattle.px_type_rules.specs.declared.breach.Breach.{Breach}
+use Rattle.px_type_rules.specs.Breaches.{Note, Fault, New, OneMethod, breach_if, at, least, breaches, is_before, max_news, max_methods}
 
 -- no breach is noted
 abbrev pub Clean : List Note → Type 0

@@ -32,10 +32,10 @@ use Rattle.px_types.specs.declared.locals.Locals.{Locals}
 use Rattle.px_types.specs.declared.scope.Scope.{Scope}
 use Rattle.px_types.specs.declared.database.Verb.{Verb}
 use Rattle.px_types.specs.declared.database.Verb.TheVariants as verb
-use Rattle.px_types.specs.Breaches.{breach_if, New}
+use Rattle.px_type_rules.specs.Breaches.{breach_if, New}
 use Rattle.px_types.specs.Names.{find}
-use Rattle.px_types.specs.Literals.{literal_type}
-use Rattle.px_types.specs.Operators.{is_minus, prefix_fits, prefix_type, group_of, operands_fit, group_type, compares_texts}
+use Rattle.px_type_rules.specs.Literals.{literal_type}
+use Rattle.px_type_rules.specs.Operators.{is_minus, prefix_fits, prefix_type, group_of, operands_fit, group_type, compares_texts}
 use Rattle.px_types.specs.Members.{base_type, class_type, no_class, names_no_class, field_of, method_of}
 use Rattle.px_types.specs.Scopes.{no_locals, variable_type}
 use Rattle.px_types.specs.Facts.{typed_only, variable_fact, field_fact, method_fact, new_of, new_fact, database_fact, verb_fact, field_at, field_place, method_at, method_place, numbered_method}

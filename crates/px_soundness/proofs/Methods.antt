@@ -15,7 +15,7 @@ use Rattle.px_types.specs.declared.classes.Classes.{Classes}
 use Rattle.px_types.specs.declared.home.Home.{Home}
 use Rattle.px_types.specs.declared.locals.Locals.{Locals}
 use Rattle.px_types.specs.declared.scope.Scope.{Scope}
-use Rattle.px_types.specs.Breaches.{breach_if}
+use Rattle.px_type_rules.specs.Breaches.{breach_if}
 use Rattle.px_types.specs.Names.{has_name}
 use Rattle.px_types.specs.Members.{param_type, result_type, names_no_class}
 use Rattle.px_types.specs.Scopes.{no_locals, with_local, local_notes}

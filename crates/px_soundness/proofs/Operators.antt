@@ -10,9 +10,9 @@ use Rattle.px_facts.specs.declared.types.Ty.TheVariants as ty
 use Rattle.px_facts.specs.declared.types.Element.{Element}
 use Rattle.px_facts.specs.declared.types.Element.TheVariants as element
 use Rattle.px_facts.specs.Types.{is_unknown, is_void, is_number, is_boolean, is_text, same_element, same, fits}
-use Rattle.px_types.specs.declared.operators.Group.{Group}
-use Rattle.px_types.specs.declared.operators.Group.TheVariants as group
-use Rattle.px_types.specs.Operators.{promoted, both_promoted, prefix_fits, prefix_type, group_of, group_takes, are_numbers, are_booleans, are_references, group_joins, operand_fits, operands_fit, bits_type, group_type, compares_texts, compound_takes, assigned_fits, compound_fits}
+use Rattle.px_type_rules.specs.declared.operators.Group.{Group}
+use Rattle.px_type_rules.specs.declared.operators.Group.TheVariants as group
+use Rattle.px_type_rules.specs.Operators.{promoted, both_promoted, prefix_fits, prefix_type, group_of, group_takes, are_numbers, are_booleans, are_references, group_joins, operand_fits, operands_fit, bits_type, group_type, compares_texts, compound_takes, assigned_fits, compound_fits}
 use Rattle.px_mean.specs.Facts.{op_of, prefix_of}
 use Rattle.px_mean.specs.Typing.{Promotes, IsArithmetic, IsOfBits, IsShift, IsOrder, IsEquality, IsObject, AreCompared, GivesType, PrefixGives, BinaryGives, Fits}
 use Rattle.px_mean.specs.Typing as t

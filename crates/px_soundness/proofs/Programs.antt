@@ -28,7 +28,7 @@ use Rattle.px_types.specs.declared.classes.MethodType.{MethodType}
 use Rattle.px_types.specs.declared.classes.Members.{Members}
 use Rattle.px_types.specs.declared.classes.Classes.{Classes}
 use Rattle.px_types.specs.declared.home.Home.{Home}
-use Rattle.px_types.specs.Breaches.{breach_if}
+use Rattle.px_type_rules.specs.Breaches.{breach_if}
 use Rattle.px_types.specs.Names.{has_name, reserves, place_of, value_at, find}
 use Rattle.px_types.specs.Members.{param_type, result_type, no_members, field_type, method_type, with_member, class_members, field_of, method_of}
 use Rattle.px_types.specs.Scopes.{no_locals}

@@ -24,9 +24,9 @@ use Rattle.px_types.specs.declared.classes.Classes.{Classes}
 use Rattle.px_types.specs.declared.locals.Locals.{Locals}
 use Rattle.px_types.specs.declared.scope.Slot.{Slot}
 use Rattle.px_types.specs.declared.scope.Scope.{Scope}
-use Rattle.px_types.specs.Breaches.{breach_if}
+use Rattle.px_type_rules.specs.Breaches.{breach_if}
 use Rattle.px_types.specs.Names.{find, has_name}
-use Rattle.px_types.specs.Operators.{group_of, compound_fits}
+use Rattle.px_type_rules.specs.Operators.{group_of, compound_fits}
 use Rattle.px_types.specs.Members.{class_type, base_type, type_of, names_no_class}
 use Rattle.px_types.specs.Scopes.{with_local, left, local_notes, local_type, or_unknown}
 use Rattle.px_types.specs.Slots.{slot_of}

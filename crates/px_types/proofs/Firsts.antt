@@ -3,9 +3,9 @@ use Rattle.std.proofs.Common.{◌≡◌, ℕ, ◌+◌, Bool, true, false, List, 
 use Rattle.std.specs.Prelude.{nat_lt}
 use Rattle.px_value.specs.declared.schema.Schema.{Schema}
 use Rattle.px_tree.specs.declared.Program.{Program}
-use Rattle.px_types.specs.declared.breach.Breach.{Breach}
-use Rattle.px_types.specs.declared.report.Report.{Report}
-use Rattle.px_types.specs.Breaches.{Note, Fault, New, OneMethod, at, lesser, least, breaches, noted, after, max_news, max_methods}
+use Rattle.px_type_rules.specs.declared.breach.Breach.{Breach}
+use Rattle.px_type_rules.specs.declared.report.Report.{Report}
+use Rattle.px_type_rules.specs.Breaches.{Note, Fault, New, OneMethod, at, lesser, least, breaches, noted, after, max_news, max_methods}
 use Rattle.px_types.specs.Programs.{no_report, notes_of, first_breach_of}
 
 abbrev report : Option Breach → ℕ → ℕ → Report

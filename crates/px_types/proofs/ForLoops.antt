@@ -3,8 +3,8 @@ use Rattle.std.proofs.Common.{◌≡◌, ℕ, ◌++◌, true, ap, ◌∙◌}
 use Rattle.px_tree.specs.declared.Expr.{Expr}
 use Rattle.px_types.specs.declared.context.Context.{Context}
 use Rattle.px_types.specs.declared.locals.Locals.{Locals}
-use Rattle.px_types.specs.declared.report.Report.{Report}
-use Rattle.px_types.specs.Breaches.{after}
+use Rattle.px_type_rules.specs.declared.report.Report.{Report}
+use Rattle.px_type_rules.specs.Breaches.{after}
 use Rattle.px_types.specs.Scopes.{left}
 use Rattle.px_types.specs.Statements.{JudgesStmt, condition, for_loop}
 use Rattle.px_types.proofs.Notes.{and_then}

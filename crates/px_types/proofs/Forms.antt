@@ -12,9 +12,9 @@ use Rattle.px_value.specs.declared.schema.Schema.{Schema}
 use Rattle.px_types.specs.declared.database.Verb.{Verb}
 use Rattle.px_types.specs.declared.context.Context.{Context}
 use Rattle.px_types.specs.declared.locals.Locals.{Locals}
-use Rattle.px_types.specs.Operators.{is_minus}
+use Rattle.px_type_rules.specs.Operators.{is_minus}
 use Rattle.px_types.specs.Scopes.{variable_type}
-use Rattle.px_types.specs.Breaches.{breach_if}
+use Rattle.px_type_rules.specs.Breaches.{breach_if}
 use Rattle.px_types.specs.Database.{Written, Bare, Literal, Other, written_form, written, asked, literal_in, asked_operation, text_notes}
 use Rattle.px_types.specs.Expressions.{Typed, Judges, JudgesForm, typed, typed_form, typed_step, whole, of_type, number, text, variable, bracketed, field, index, arguments, call, types_of, asked_notes, database_notes, database_call, call_or, call_on, new_object, new_array, prefixed, binary}
 

@@ -14,8 +14,8 @@ use Rattle.px_types.specs.declared.node.Node.{Node}
 use Rattle.px_types.specs.declared.database.Verb.{Verb}
 use Rattle.px_types.specs.declared.home.Home.{Home}
 use Rattle.px_types.specs.declared.scope.Scope.{Scope}
-use Rattle.px_types.specs.Literals.{literal_type}
-use Rattle.px_types.specs.Operators.{prefix_type, group_of, group_type}
+use Rattle.px_type_rules.specs.Literals.{literal_type}
+use Rattle.px_type_rules.specs.Operators.{prefix_type, group_of, group_type}
 use Rattle.px_types.specs.Members.{base_type}
 use Rattle.px_types.specs.Facts.{typed_only, variable_fact, new_fact, database_fact, verb_fact}
 use Rattle.px_types.specs.Database.{Other, written_form, written, asked, first_written as text_written}

@@ -2,7 +2,6 @@ pub mod Notes
 pub mod Results
 pub mod Forms
 pub mod StatementForms
-pub mod Decimals
 pub mod Mapped
 pub mod Firsts
 pub mod ForLoops

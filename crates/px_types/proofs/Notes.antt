@@ -1,7 +1,7 @@
 -- What is found in one part, and then in the next.
 use Rattle.std.proofs.Common.{◌≡◌, ◌++◌, List, [], ◌∷◌, refl, sym, ap, ◌∙◌}
-use Rattle.px_types.specs.declared.report.Report.{Report}
-use Rattle.px_types.specs.Breaches.{Note, noted, after}
+use Rattle.px_type_rules.specs.declared.report.Report.{Report}
+use Rattle.px_type_rules.specs.Breaches.{Note, noted, after}
 
 pub after_append : (r : Report) (xs ys : List Note) → after r (xs ++ ys) ≡ after (after r xs) ys
 after_append r [] ys = refl

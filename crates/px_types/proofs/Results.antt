@@ -1,8 +1,8 @@
 -- What is known where a result is a value.
 use Rattle.std.proofs.Common.{◌≡◌, ◌≤◌, ◌-◌, List, [], ◌∷◌, ◌++◌, length, take, drop, get_or, Result, Ok, Err, IfOk, OnOk, sym, ap, arith, ◌∙◌}
 use Rattle.std.proofs.lemmas.List.{take_rest}
-use Rattle.px_types.specs.declared.report.Report.{Report}
-use Rattle.px_types.specs.Breaches.{Note, after}
+use Rattle.px_type_rules.specs.declared.report.Report.{Report}
+use Rattle.px_type_rules.specs.Breaches.{Note, after}
 use Rattle.px_types.proofs.Notes.{and_then}
 
 pub same_if : {A E : Type 0} (r : Result A E) (a b : A) → IfOk r (λ x. x ≡ a) → a ≡ b → IfOk r (λ x. x ≡ b)

@@ -5,7 +5,7 @@ use Rattle.px_lex.specs.declared.token.Token.{Token}
 use Rattle.px_value.specs.declared.schema.Schema.{Schema}
 use Rattle.px_tree.specs.declared.Program.{Program}
 use Rattle.px_tree.specs.declared.Class.{Class}
-use Rattle.px_types.specs.declared.breach.Breach.{Breach}
+use Rattle.px_type_rules.specs.declared.breach.Breach.{Breach}
 use Rattle.px_facts.specs.declared.types.Ty.{Ty}
 use Rattle.px_types.specs.declared.classes.FieldType.{FieldType}
 use Rattle.px_types.specs.declared.classes.Members.{Members}

@@ -17,7 +17,7 @@ use Rattle.px_facts.specs.declared.operation.Operation.{Operation}
 use Rattle.px_facts.specs.Types.{fits}
 use Rattle.px_types.specs.declared.database.Verb.{Verb}
 use Rattle.px_types.specs.declared.database.Verb.TheVariants.{Query, Update}
-use Rattle.px_types.specs.Breaches.{Note, breach_if}
+use Rattle.px_type_rules.specs.Breaches.{Note, breach_if}
 
 -- how an expression is written: a bare name, a string literal with its token, or any other
 pub data Written : Type 0 where

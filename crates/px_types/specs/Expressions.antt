@@ -14,10 +14,10 @@ use Rattle.px_types.specs.declared.classes.MethodType.{MethodType}
 use Rattle.px_types.specs.declared.database.Verb.{Verb}
 use Rattle.px_types.specs.declared.context.Context.{Context}
 use Rattle.px_types.specs.declared.locals.Locals.{Locals}
-use Rattle.px_types.specs.Breaches.{Note, New, breach_if}
+use Rattle.px_type_rules.specs.Breaches.{Note, New, breach_if}
 use Rattle.px_facts.specs.Types.{is_unknown, is_array, fits, array_of, indexed}
-use Rattle.px_types.specs.Operators.{is_minus, prefix_fits, prefix_type, group_of, operands_fit, group_type, compares_texts}
-use Rattle.px_types.specs.Literals.{max_text, literal_type, is_in_range}
+use Rattle.px_type_rules.specs.Operators.{is_minus, prefix_fits, prefix_type, group_of, operands_fit, group_type, compares_texts}
+use Rattle.px_type_rules.specs.Literals.{max_text, literal_type, is_in_range}
 use Rattle.px_types.specs.Names.{find}
 use Rattle.px_types.specs.Members.{class_type, base_type, no_class, names_no_class, field_of, method_of, hidden}
 use Rattle.px_types.specs.Scopes.{variable_type, or_unknown}

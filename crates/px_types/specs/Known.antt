@@ -13,8 +13,8 @@ use Rattle.px_types.specs.declared.database.Verb.{Verb}
 use Rattle.px_types.specs.declared.home.Home.{Home}
 use Rattle.px_types.specs.declared.scope.Scope.{Scope}
 use Rattle.px_facts.specs.Types.{array_of, indexed}
-use Rattle.px_types.specs.Literals.{literal_type}
-use Rattle.px_types.specs.Operators.{prefix_type, group_of, group_type}
+use Rattle.px_type_rules.specs.Literals.{literal_type}
+use Rattle.px_type_rules.specs.Operators.{prefix_type, group_of, group_type}
 use Rattle.px_types.specs.Members.{base_type}
 use Rattle.px_types.specs.Facts.{typed_only, variable_fact, field_fact, method_fact, new_fact, new_array_fact, database_fact, verb_fact}
 use Rattle.px_types.specs.Database.{Written, Bare, Literal, Other, asked, asked_operation}

@@ -1,6 +1,3 @@
-pub mod Breaches
-pub mod Operators
-pub mod Literals
 pub mod Names
 pub mod Members
 pub mod Scopes

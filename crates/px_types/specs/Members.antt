@@ -22,7 +22,7 @@ use Rattle.px_types.specs.declared.classes.MethodType.{MethodType}
 use Rattle.px_types.specs.declared.classes.Members.{Members}
 use Rattle.px_types.specs.declared.classes.Library.{Library}
 use Rattle.px_types.specs.declared.classes.Classes.{Classes}
-use Rattle.px_types.specs.Breaches.{Note, breach_if}
+use Rattle.px_type_rules.specs.Breaches.{Note, breach_if}
 use Rattle.px_types.specs.Names.{empty, declare, find}
 use Rattle.px_facts.specs.Types.{array_of}
 

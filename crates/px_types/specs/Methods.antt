@@ -11,7 +11,7 @@ use Rattle.px_types.specs.declared.table.Table.{Table}
 use Rattle.px_types.specs.declared.classes.Classes.{Classes}
 use Rattle.px_types.specs.declared.context.Context.{Context}
 use Rattle.px_types.specs.declared.locals.Locals.{Locals}
-use Rattle.px_types.specs.Breaches.{Note, breach_if}
+use Rattle.px_type_rules.specs.Breaches.{Note, breach_if}
 use Rattle.px_facts.specs.Types.{is_void, is_printable}
 use Rattle.px_types.specs.Members.{result_type, param_type, names_no_class}
 use Rattle.px_types.specs.Scopes.{no_locals, with_local, all_usable, local_notes}

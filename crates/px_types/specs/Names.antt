@@ -4,7 +4,7 @@ use Rattle.std.specs.List.{list_any}
 use Rattle.std.specs.Str.{bytes_eq}
 use Rattle.px_tree.specs.declared.Name.{Name}
 use Rattle.px_types.specs.declared.table.Table.{Table}
-use Rattle.px_types.specs.Breaches.{Note, breach_if}
+use Rattle.px_type_rules.specs.Breaches.{Note, breach_if}
 
 -- the place of a name, from 0
 abbrev pub place_of : List ℕ → List (List ℕ) → Option ℕ

@@ -9,12 +9,12 @@ use Rattle.px_tree.specs.declared.FieldDecl.{FieldDecl}
 use Rattle.px_tree.specs.declared.Method.{Method}
 use Rattle.px_tree.specs.declared.Member.{Member}
 use Rattle.px_tree.specs.declared.Member.TheVariants as member
-use Rattle.px_types.specs.declared.breach.Breach.{Breach}
-use Rattle.px_types.specs.declared.report.Report.{Report}
+use Rattle.px_type_rules.specs.declared.breach.Breach.{Breach}
+use Rattle.px_type_rules.specs.declared.report.Report.{Report}
 use Rattle.px_types.specs.declared.table.Table.{Table}
 use Rattle.px_types.specs.declared.classes.Members.{Members}
 use Rattle.px_types.specs.declared.classes.Classes.{Classes}
-use Rattle.px_types.specs.Breaches.{Note, OneMethod, breach_if, breaches, least}
+use Rattle.px_type_rules.specs.Breaches.{Note, OneMethod, breach_if, breaches, least}
 use Rattle.px_types.specs.Names.{empty, declare, has_name, repeated, reserves}
 use Rattle.px_types.specs.Members.{no_members, with_member, numbers_of, classes_of, names_no_class}
 use Rattle.px_types.specs.Methods.{method_notes, entry_notes}

@@ -7,7 +7,7 @@ use Rattle.px_facts.specs.declared.types.Ty.TheVariants.{Unknown, Object}
 use Rattle.px_types.specs.declared.classes.FieldType.{FieldType}
 use Rattle.px_types.specs.declared.context.Context.{Context}
 use Rattle.px_types.specs.declared.locals.Locals.{Locals}
-use Rattle.px_types.specs.Breaches.{Note}
+use Rattle.px_type_rules.specs.Breaches.{Note}
 use Rattle.px_types.specs.Names.{empty, declare, place_of, has_name, repeated, reserves}
 use Rattle.px_types.specs.Members.{field_of}
 

@@ -13,9 +13,9 @@ use Rattle.px_facts.specs.declared.types.Ty.{Ty}
 use Rattle.px_facts.specs.declared.types.Ty.TheVariants.{Unknown, Boolean}
 use Rattle.px_types.specs.declared.context.Context.{Context}
 use Rattle.px_types.specs.declared.locals.Locals.{Locals}
-use Rattle.px_types.specs.Breaches.{Note, breach_if}
+use Rattle.px_type_rules.specs.Breaches.{Note, breach_if}
 use Rattle.px_facts.specs.Types.{is_unknown, is_void, is_number, is_array, is_printable, fits}
-use Rattle.px_types.specs.Operators.{group_of, compound_fits}
+use Rattle.px_type_rules.specs.Operators.{group_of, compound_fits}
 use Rattle.px_types.specs.Members.{type_of, names_no_class}
 use Rattle.px_types.specs.Scopes.{with_local, all_usable, left, local_notes, local_type, or_unknown}
 use Rattle.px_types.specs.Database.{Other}

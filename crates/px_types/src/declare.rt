@@ -3,16 +3,16 @@ ghost use Rattle.std.specs.Prelude.{◌≡◌, map, IfOk, OnOk};
 ghost use Rattle.px_types.specs.Members as members;
 ghost use Rattle.px_types.specs.Names as names;
 ghost use Rattle.px_types.specs.Programs as programs;
-ghost use Rattle.px_types.specs.Breaches.{after};
+ghost use Rattle.px_type_rules.specs.Breaches.{after};
 
 use crate::classes::{Classes, FieldType, Library, Members, MethodType};
 use crate::members::{check_base, result_type, type_of};
 use crate::names::is_reserved;
-use crate::report::Report;
 use crate::schema::copy_schema;
 use crate::table::Table;
 use px_facts::Ty;
 use px_tree::{Access, Class, FieldDecl, Member, Method, Param};
+use px_type_rules::Report;
 use px_value::Schema;
 use sqlite_items::{Boxed, Items};
 use std::alloc::{AllocError, Global};

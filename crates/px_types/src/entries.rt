@@ -1,15 +1,15 @@
 //! The rules of the class Main and of its entries.
 ghost use Rattle.std.specs.Prelude.{◌≡◌};
 ghost use Rattle.std.specs.List.{list_all};
-ghost use Rattle.px_types.specs.Breaches.{after};
+ghost use Rattle.px_type_rules.specs.Breaches.{after};
 ghost use Rattle.px_types.specs.Methods as methods;
 ghost use Rattle.px_types.specs.Programs as programs;
 
 use crate::members::{result_type, type_of};
-use crate::report::Report;
 use crate::table::Table;
 use px_facts::Ty;
 use px_tree::{Access, Class, Member, Method, Param};
+use px_type_rules::Report;
 
 /// There is a class Main, and its entries have types that a job has values of. `end` is the last token.
 #[tactic(auto, using(crate::proofs::Notes::after_append))]

@@ -1,6 +1,6 @@
 //! The types of expressions, and the rules that they break.
 ghost use Rattle.std.specs.Prelude.{◌≡◌, map, IfOk, OnOk};
-ghost use Rattle.px_types.specs.Breaches.{after};
+ghost use Rattle.px_type_rules.specs.Breaches.{after};
 ghost use Rattle.px_types.specs.Database as calls;
 ghost use Rattle.px_types.specs.Scopes as scopes;
 ghost use Rattle.px_types.specs.Expressions as expressions;
@@ -8,15 +8,14 @@ ghost use Rattle.px_types.specs.Expressions.{typed, typed_form, of_type};
 
 use crate::context::Context;
 use crate::database::{Verb, all_fit, asked, asked_operation, literal, verb_type, wanted_at};
-use crate::literal::{is_in_range, literal_type};
 use crate::locals::Locals;
 use crate::members::{base_type, check_access, check_base, check_class, class_type};
-use crate::operators::{
-    compares_texts, group_of, group_type, is_minus, operands_fit, prefix_fits, prefix_type,
-};
-use crate::report::Report;
 use px_facts::{Ty, fits};
 use px_tree::{Expr, ExprForm, Name, Sign};
+use px_type_rules::{
+    Report, compares_texts, group_of, group_type, is_in_range, is_minus, literal_type,
+    operands_fit, prefix_fits, prefix_type,
+};
 use px_value::MAX_TEXT;
 use sqlite_items::Items;
 use std::alloc::{AllocError, Global};

@@ -7,14 +7,13 @@ ghost use Rattle.px_types.specs.Known.{known, known_form, all_nodes, argument_no
 
 use crate::database::{Verb, asked, asked_operation, first_literal};
 use crate::home::Home;
-use crate::literal::literal_type;
 use crate::lookup::{database_fact, new_array_fact, typed_only, verb_fact};
 use crate::members::base_type;
 use crate::node::{Node, add_fact, fact_only};
-use crate::operators::{group_of, group_type, prefix_type};
 use crate::scope::Scope;
 use px_facts::{Fact, Named, Operation, Ty};
 use px_tree::{Expr, ExprForm};
+use px_type_rules::{group_of, group_type, literal_type, prefix_type};
 use sqlite_items::Items;
 use std::alloc::{AllocError, Global};
 

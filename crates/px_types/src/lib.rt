@@ -2,7 +2,6 @@
 #![tactic(auto)]
 
 mod bodies;
-mod breach;
 mod classes;
 mod context;
 mod database;
@@ -12,7 +11,6 @@ mod error;
 mod expression;
 mod home;
 mod known;
-mod literal;
 mod locals;
 mod lookup;
 mod main_class;
@@ -21,9 +19,7 @@ mod method;
 mod names;
 mod node;
 mod numbers;
-mod operators;
 mod program;
-mod report;
 mod schema;
 mod scope;
 mod sites;
@@ -33,7 +29,6 @@ mod told;
 mod values;
 mod verdict;
 
-pub use breach::Breach;
 pub use error::CheckError;
 pub use program::first_breach;
 pub use verdict::check;

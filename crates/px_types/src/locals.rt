@@ -2,13 +2,13 @@
 ghost use Rattle.std.specs.Prelude.{◌≡◌, Some, take, is_some, OnOk};
 ghost use Rattle.px_types.specs.Scopes as scopes;
 ghost use Rattle.px_types.specs.Names as names;
-ghost use Rattle.px_types.specs.Breaches.{after};
+ghost use Rattle.px_type_rules.specs.Breaches.{after};
 
 use crate::names::is_reserved;
-use crate::report::Report;
 use crate::table::Table;
 use px_facts::Ty;
 use px_tree::Name;
+use px_type_rules::Report;
 use std::alloc::{AllocError, Global};
 
 /// The parameters and locals in scope, the oldest first.

@@ -4,13 +4,13 @@ ghost use Rattle.std.specs.Option.{option_copied};
 ghost use Rattle.px_types.specs.Members as members;
 ghost use Rattle.px_types.specs.Names as names;
 ghost use Rattle.px_types.specs.Facts as facts;
-ghost use Rattle.px_types.specs.Breaches.{after};
+ghost use Rattle.px_type_rules.specs.Breaches.{after};
 
 use crate::classes::{Classes, FieldType, Members, MethodType};
-use crate::report::Report;
 use crate::table::Table;
 use px_facts::Ty;
 use px_tree::{Access, Base, Name, TypeName};
+use px_type_rules::Report;
 
 pub fn class_type(numbers: &Table<usize>, name: &[u8]) -> Ty
     ensures { result ≡ members.class_type (names.find name.now numbers.now) }

@@ -1,15 +1,15 @@
 //! The rules of a method.
 ghost use Rattle.std.specs.Prelude.{◌≡◌, IfOk, OnOk};
-ghost use Rattle.px_types.specs.Breaches.{after};
+ghost use Rattle.px_type_rules.specs.Breaches.{after};
 ghost use Rattle.px_types.specs.Methods as methods;
 ghost use Rattle.px_types.specs.Scopes as scopes;
 
 use crate::context::Context;
 use crate::locals::Locals;
 use crate::members::{check_base, result_type, type_of};
-use crate::report::Report;
 use crate::table::Table;
 use px_tree::{Method, Param, TypeName};
+use px_type_rules::Report;
 use std::alloc::{AllocError, Global};
 
 const MAX_TOKENS: u32 = 10000;

@@ -1,17 +1,16 @@
 //! The rules of a program.
 ghost use Rattle.std.specs.Prelude.{◌≡◌, IfOk, OnOk};
-ghost use Rattle.px_types.specs.Breaches.{after};
+ghost use Rattle.px_type_rules.specs.Breaches.{after};
 ghost use Rattle.px_types.specs.Programs as programs;
 ghost use Rattle.px_types.specs.Programs.{first_breach_of};
 
-use crate::breach::Breach;
 use crate::context::Context;
 use crate::declare::declare_classes;
 use crate::entries::check_main;
-use crate::report::Report;
 use px_facts::Ty;
 use px_lex::Token;
 use px_tree::{Class, Member, Program};
+use px_type_rules::{Breach, Report};
 use px_value::Schema;
 use std::alloc::{AllocError, Global};
 

@@ -1,6 +1,6 @@
 //! The rules of statements.
 ghost use Rattle.std.specs.Prelude.{◌≡◌, true, false, map, IfOk, OnOk};
-ghost use Rattle.px_types.specs.Breaches.{after};
+ghost use Rattle.px_type_rules.specs.Breaches.{after};
 ghost use Rattle.px_types.specs.Expressions.{typed, of_type};
 ghost use Rattle.std.specs.Option.{option_map};
 ghost use Rattle.px_types.specs.Scopes as scopes;
@@ -11,10 +11,9 @@ use crate::context::Context;
 use crate::expression::or_unknown;
 use crate::locals::Locals;
 use crate::members::{check_base, type_of};
-use crate::operators::{compound_fits, group_of};
-use crate::report::Report;
 use px_facts::{Ty, fits};
 use px_tree::{Expr, ExprForm, Name, Sign, Stmt, StmtForm, TypeName};
+use px_type_rules::{Report, compound_fits, group_of};
 use sqlite_items::Boxed;
 use std::alloc::{AllocError, Global};
 

@@ -1,5 +1,5 @@
 use Rattle.std.proofs.Common.{◌≡◌, ◌++◌, drop, map}
-use Rattle.px_types.specs.Breaches.{after}
+use Rattle.px_type_rules.specs.Breaches.{after}
 use Rattle.px_types.specs.Members.{class_members}
 use Rattle.px_types.specs.Programs.{all_members}
 use Rattle.px_types.proofs.declare.declare_all.Given as goal

@@ -1,6 +1,6 @@
 use Rattle.std.proofs.Common.{◌≡◌, ◌≤◌, drop}
 use Rattle.std.specs.Prelude.{fold}
-use Rattle.px_types.specs.Breaches.{after}
+use Rattle.px_type_rules.specs.Breaches.{after}
 use Rattle.px_types.specs.Members.{members_in, with_member, no_members}
 use Rattle.px_types.specs.Programs.{members_notes}
 use Rattle.px_types.proofs.declare.declare_members.Given as goal

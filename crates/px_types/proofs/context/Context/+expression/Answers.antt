@@ -3,7 +3,7 @@ use Rattle.std.specs.Option.{option_copied}
 use Rattle.px_tree.specs.declared.Expr.{Expr}
 use Rattle.px_tree.specs.declared.ExprForm.TheVariants.{Call}
 use Rattle.px_facts.specs.declared.types.Ty.TheVariants.{Int}
-use Rattle.px_types.specs.Breaches.{New, breach_if, after}
+use Rattle.px_type_rules.specs.Breaches.{New, breach_if, after}
 use Rattle.px_facts.specs.Types.{array_of, fits}
 use Rattle.px_types.specs.Members.{names_no_class}
 use Rattle.px_types.specs.Database.{asked, written, asked_operation, text_notes}

@@ -1,5 +1,5 @@
 use Rattle.std.proofs.Common.{◌≡◌, ◌++◌, drop, map}
-use Rattle.px_types.specs.Breaches.{after}
+use Rattle.px_type_rules.specs.Breaches.{after}
 use Rattle.px_types.specs.Expressions.{arguments, types_of, typed}
 use Rattle.px_types.proofs.context.Context.+expression.Given as goal
 

@@ -1,6 +1,6 @@
 use Rattle.std.proofs.Common.{◌++◌, true, false, take, sym, ap, ◌∙◌}
 use Rattle.std.specs.Option.{option_map}
-use Rattle.px_types.specs.Breaches.{after}
+use Rattle.px_type_rules.specs.Breaches.{after}
 use Rattle.px_facts.specs.Types.{is_printable}
 use Rattle.px_types.specs.Expressions.{misfit, typed}
 use Rattle.px_types.specs.Statements.{Judged, judged, condition, otherwise}

@@ -1,6 +1,6 @@
 use Rattle.std.proofs.Common.{◌≡◌, drop, map}
 use Rattle.std.specs.Prelude.{true}
-use Rattle.px_types.specs.Breaches.{after}
+use Rattle.px_type_rules.specs.Breaches.{after}
 use Rattle.px_types.specs.Statements.{block, judged}
 use Rattle.px_types.proofs.context.Context.+statement.Given as goal
 

@@ -1,5 +1,5 @@
 use Rattle.std.proofs.Common.{◌≡◌, drop}
-use Rattle.px_types.specs.Breaches.{after}
+use Rattle.px_type_rules.specs.Breaches.{after}
 use Rattle.px_types.specs.Programs.{bodies}
 use Rattle.px_types.proofs.context.Context.bodies.Given as goal
 

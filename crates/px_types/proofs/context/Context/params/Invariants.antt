@@ -1,5 +1,5 @@
 use Rattle.std.proofs.Common.{◌≡◌, drop}
-use Rattle.px_types.specs.Breaches.{after}
+use Rattle.px_type_rules.specs.Breaches.{after}
 use Rattle.px_types.specs.Scopes.{no_locals}
 use Rattle.px_types.specs.Methods.{param_notes, with_params}
 use Rattle.px_types.proofs.context.Context.params.Given as goal

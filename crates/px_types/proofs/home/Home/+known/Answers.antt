@@ -3,7 +3,7 @@ use Rattle.px_tree.specs.declared.Expr.{Expr}
 use Rattle.px_tree.specs.declared.ExprForm.TheVariants.{Call}
 use Rattle.px_types.specs.declared.node.Node.{Node}
 use Rattle.px_facts.specs.Types.{indexed}
-use Rattle.px_types.specs.Operators.{group_type}
+use Rattle.px_type_rules.specs.Operators.{group_type}
 use Rattle.px_types.specs.Facts.{typed_only, method_fact, database_fact}
 use Rattle.px_types.specs.Database.{asked, written}
 use Rattle.px_types.specs.Known.{Known, known, known_form, fact_only, all_nodes, argument_nodes}

@@ -1,6 +1,6 @@
 //! Integer literals.
 ghost use Rattle.std.specs.Prelude.{◌≡◌, nat_le};
-ghost use Rattle.px_types.specs.Literals as literals;
+ghost use Rattle.px_type_rules.specs.Literals as literals;
 
 use px_facts::Ty;
 

@@ -1,6 +1,6 @@
 //! The operands and the types of operators.
 ghost use Rattle.std.specs.Prelude.{◌≡◌};
-ghost use Rattle.px_types.specs.Operators as operators;
+ghost use Rattle.px_type_rules.specs.Operators as operators;
 
 use px_facts::{Ty, same};
 use px_tree::Sign;

@@ -1,6 +1,6 @@
 use Rattle.std.proofs.Common.{arith}
-use Rattle.px_types.proofs.Decimals.{passes}
-use Rattle.px_types.proofs.literal.is_at_most.Goals as goal
+use Rattle.px_type_rules.proofs.Decimals.{passes}
+use Rattle.px_type_rules.proofs.literal.is_at_most.Goals as goal
 
 pub returns-then-value-most : goal.returns-then-value-most
 returns-then-value-most c =

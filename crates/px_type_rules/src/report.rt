@@ -1,7 +1,7 @@
 //! What is found in a program.
 ghost use Rattle.std.specs.Prelude.{◌≡◌, Some, None, [], ◌∷◌};
-ghost use Rattle.px_types.specs.Breaches as breaches;
-ghost use Rattle.px_types.specs.Breaches.{after, Fault, New, OneMethod};
+ghost use Rattle.px_type_rules.specs.Breaches as breaches;
+ghost use Rattle.px_type_rules.specs.Breaches.{after, Fault, New, OneMethod};
 
 use crate::breach::Breach;
 

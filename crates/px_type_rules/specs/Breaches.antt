@@ -1,7 +1,7 @@
 -- What the rules find in a program, and which of it is the answer.
 use Rattle.std.specs.Prelude.{ℕ, ◌+◌, Bool, true, false, ◌&&◌, ◌||◌, List, [], ◌∷◌, Option, Some, None, fold, nat_eq, nat_lt, if◌then◌else◌}
-use Rattle.px_types.specs.declared.breach.Breach.{Breach}
-use Rattle.px_types.specs.declared.report.Report.{Report}
+use Rattle.px_type_rules.specs.declared.breach.Breach.{Breach}
+use Rattle.px_type_rules.specs.declared.report.Report.{Report}
 
 -- What is found in a part of a program, in the order of the walk: a breach of a rule, by its token and its code, and what is counted
 -- over the whole program, by its token.

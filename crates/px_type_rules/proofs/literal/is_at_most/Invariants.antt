@@ -1,6 +1,6 @@
 use Rattle.std.proofs.Common.{◌≡◌, ◌≤◌, drop}
-use Rattle.px_types.specs.Literals.{decimal_value}
-use Rattle.px_types.proofs.literal.is_at_most.Given as goal
+use Rattle.px_type_rules.specs.Literals.{decimal_value}
+use Rattle.px_type_rules.proofs.literal.is_at_most.Given as goal
 
 abbrev pub invariant-loop-digit : goal.invariant-loop-digit
 invariant-loop-digit l = record {

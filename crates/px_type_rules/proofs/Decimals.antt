@@ -2,7 +2,7 @@
 use Rattle.std.proofs.Common.{◌≡◌, ℕ, ◌+◌, ◌-◌, ◌*◌, ◌<◌, ◌≤◌, false, nat_le, List, [], ◌∷◌, length, drop, get_or, ap, arith, le_refl}
 use Rattle.std.proofs.lemmas.List.{drop_more}
 use Rattle.std.proofs.lemmas.Bool.Decides.{nat_tests}
-use Rattle.px_types.specs.Literals.{decimal_value}
+use Rattle.px_type_rules.specs.Literals.{decimal_value}
 
 pub le-decimal_value : (ds : List ℕ) (n : ℕ) → n ≤ decimal_value ds n
 le-decimal_value [] n = le_refl n

@@ -4,8 +4,8 @@ use Rattle.px_tree.specs.declared.Sign.{Sign}
 use Rattle.px_tree.specs.declared.Sign.TheVariants.{Plus, Minus, Times, Over, Rest, And, Or, Xor, Shl, Shr, Ushr, Less, AtMost, More, AtLeast, Equal, Unequal, Both, Either, Not, Inv, ToInt, ToLong}
 use Rattle.px_facts.specs.declared.types.Ty.{Ty}
 use Rattle.px_facts.specs.declared.types.Ty.TheVariants.{Unknown, Int, Long, Boolean, Text}
-use Rattle.px_types.specs.declared.operators.Group.{Group}
-use Rattle.px_types.specs.declared.operators.Group.TheVariants as group
+use Rattle.px_type_rules.specs.declared.operators.Group.{Group}
+use Rattle.px_type_rules.specs.declared.operators.Group.TheVariants as group
 use Rattle.px_facts.specs.Types.{is_unknown, is_void, is_null, is_number, is_boolean, is_text, is_reference, same}
 
 -- unary numeric promotion (JLS 5.6.1)
