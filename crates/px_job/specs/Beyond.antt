@@ -37,3 +37,18 @@ begins_part (verb ∷ words) = is_part_verb (verb_of verb)
 abbrev pub beyond_from : ℕ → Bool → List (List ℕ) → Option ℕ
 beyond_from number parted [] = None
 beyond_from number parted (line ∷ lines) = if is_beyond parted (words_of line) then Some number else beyond_from (number + 1) (parted || begins_part (words_of line)) lines
+
+-- ---- parts with a budget
+
+abbrev pub budgets_by : Option Verb → List (List ℕ) → Bool
+budgets_by (Some verbs.Part) words = has_budget words
+budgets_by _ words = false
+
+abbrev pub sets_budget : List (List ℕ) → Bool
+sets_budget [] = false
+sets_budget (verb ∷ words) = budgets_by (verb_of verb) words
+
+-- the first such line, from a number on
+abbrev pub budget_from : ℕ → List (List ℕ) → Option ℕ
+budget_from number [] = None
+budget_from number (line ∷ lines) = if sets_budget (words_of line) then Some number else budget_from (number + 1) lines

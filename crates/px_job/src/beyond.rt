@@ -1,10 +1,10 @@
-//! Lines that two ends don't take yet.
+//! Lines that a command doesn't take yet.
 
 ghost use Rattle.std.specs.Prelude.{◌≡◌, ◌≤◌, ◌<◌, ◌^◌, length, false};
 ghost use Rattle.px_job.specs.Lines.{lines_of};
 ghost use Rattle.px_job.specs.Words.{words_of};
 ghost use Rattle.px_job.specs.Verbs.{verb_of};
-ghost use Rattle.px_job.specs.Beyond.{sets_more, is_beyond, beyond_by, beyond_from, begins_part};
+ghost use Rattle.px_job.specs.Beyond.{sets_more, is_beyond, beyond_by, beyond_from, begins_part, sets_budget, budgets_by, budget_from};
 
 use crate::lines::split_line;
 use crate::numbers::read_number;
@@ -73,5 +73,41 @@ fn begins_part(line: &[u8]) -> bool
     match split_word(line) {
         Some((verb, _)) => matches!(verb_of(verb), Some(Verb::Part)),
         None => false,
+    }
+}
+
+/// The first line of a part with a budget.
+pub fn first_budget(bytes: &[u8]) -> Option<u32>
+    requires { length bytes.now < 2 ^ 31 }
+    ensures { result ≡ budget_from 1 (lines_of bytes.now) }
+{
+    let mut number = 1;
+    let mut rest = bytes;
+    while !rest.is_empty() {
+        let (line, more) = split_line(rest);
+        if sets_budget(line) {
+            return Some(number);
+        }
+        number += 1;
+        rest = more;
+    }
+    None
+}
+
+fn sets_budget(line: &[u8]) -> bool
+    ensures { result ≡ sets_budget (words_of line.now) }
+{
+    match split_word(line) {
+        Some((verb, rest)) => budgets_by(verb_of(verb), rest),
+        None => false,
+    }
+}
+
+fn budgets_by(verb: Option<Verb>, rest: &[u8]) -> bool
+    ensures { result ≡ budgets_by verb (words_of rest.now) }
+{
+    match verb {
+        Some(Verb::Part) => has_budget(rest),
+        _ => false,
     }
 }

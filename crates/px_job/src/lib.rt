@@ -30,7 +30,7 @@ mod titles;
 mod verbs;
 mod words;
 
-pub use beyond::first_beyond;
+pub use beyond::{first_beyond, first_budget};
 pub use job::{Call, Job, JobCode, JobError, JobFault, Part, Row};
 pub use laws::{
     jobs_fit, lines_are_filed, taken_is_of_one_session, texts_are_short, words_are_spelled,
