@@ -1,6 +1,7 @@
 //! The parts of a job, placed and shown.
 #![tactic(auto)]
 
+pub mod law;
 mod sides;
 mod texts;
 
