@@ -10,16 +10,18 @@ use Rattle.px_mean.specs.Entry.{first_heap}
 use Rattle.px_session.proofs.Once.{calls_are_told_once}
 use Rattle.px_session.proofs.Kept.{keep_is_not_told}
 use Rattle.px_report.specs.History.{report_text}
+use Rattle.px_lowering.specs.Programs.{lowered}
+use Rattle.px_parts.proofs.Once.{one_split}
 use Rattle.px_job.specs.declared.job.Job.{Job}
 use Rattle.px_job.specs.declared.job.JobFault.{JobFault}
 use Rattle.px_main.specs.declared.command.Kind.{Kind}
-use Rattle.px_main.specs.declared.command.Kind.TheVariants.{Run, Solo}
+use Rattle.px_main.specs.declared.command.Kind.TheVariants.{Run, Split, Solo}
 use Rattle.px_main.specs.declared.fault.ProgramCode.TheVariants.{Syntax}
 use Rattle.px_main.specs.Commands.{Command, Checks, Serves}
 use Rattle.px_main.specs.Whole.{Found, IsFound, ungrammatical, grammatical, JudgesWhole, fault_at, by_tables}
 use Rattle.px_main.specs.Run.{class_names, tables_of, run_of}
 use Rattle.px_main.specs.Solo.{by_source, asked, code_of, placement_of, part_name, history_of, AreDone, IsReport}
-use Rattle.px_main.specs.Answers.{Answer, taken, JudgesSplit, AnswersCalls, AnswersSplit, Answering, answers_run, answers_solo, job_for, solo_job_for, AnswersJob, AnswersProgram, Judging, IsAnswerBy, IsAnswer, IsChecked, check_answer, Holds, AllowsCheck, AllowsBoth, FixesBoth, FixesCheck, FixesStatusBoth, FixesStatusCheck, Fixes, Reading, HasStatusBy, HasStatus, status_read, status_of_job, status_of, kept, max_program, max_job}
+use Rattle.px_main.specs.Answers.{Answer, taken, JudgesSplit, AnswersCalls, AnswersParts, AnswersReport, Answering, answers_run, answers_split, answers_solo, job_for, split_job_for, solo_job_for, AnswersJob, AnswersProgram, Judging, IsAnswerBy, IsAnswer, IsChecked, check_answer, Holds, AllowsCheck, AllowsBoth, FixesBoth, FixesCheck, FixesStatusBoth, FixesStatusCheck, Fixes, Reading, HasStatusBy, HasStatus, status_read, status_of_job, status_of, kept, max_program, max_job}
 
 -- ---- what is found in a text is fixed
 
@@ -59,15 +61,22 @@ calls_once : (c : Checked) (job : Result Job JobFault) (a b : Answer) → Answer
 calls_once c (Err f) a b h k = h ∙ sym k
 calls_once c (Ok job) a b h k = h ∙ sym k
 
-split_once : (c : Checked) (job : Result Job JobFault) (a b : Answer) → AnswersSplit c job a → AnswersSplit c job b → a ≡ b
-split_once c (Err f) a b h k = h ∙ sym k
-split_once c (Ok job) a b h k = λ i. ((h.0 ∙ sym k.0) i, one_report c job a.1 b.1 h.1 k.1 i)
+parts_once : (c : Checked) (job : Result Job JobFault) (a b : Answer) → AnswersParts c job a → AnswersParts c job b → a ≡ b
+parts_once c (Err f) a b h k = h ∙ sym k
+parts_once c (Ok job) a b h k = λ i. ((h.0 ∙ sym k.0) i, one_split (lowered c) job.parts a.1 b.1 h.1 k.1 i)
+
+report_once : (c : Checked) (job : Result Job JobFault) (a b : Answer) → AnswersReport c job a → AnswersReport c job b → a ≡ b
+report_once c (Err f) a b h k = h ∙ sym k
+report_once c (Ok job) a b h k = λ i. ((h.0 ∙ sym k.0) i, one_report c job a.1 b.1 h.1 k.1 i)
 
 run_once : (c : Checked) (job : List ℕ) (a b : Answer) → answers_run c job a → answers_run c job b → a ≡ b
 run_once c job a b h k = calls_once c (job_for c job) a b h k
 
+split_once : (c : Checked) (job : List ℕ) (a b : Answer) → answers_split c job a → answers_split c job b → a ≡ b
+split_once c job a b h k = parts_once c (split_job_for c job) a b h k
+
 solo_once : (c : Checked) (job : List ℕ) (a b : Answer) → answers_solo c job a → answers_solo c job b → a ≡ b
-solo_once c job a b h k = split_once c (solo_job_for c job) a b h k
+solo_once c job a b h k = report_once c (solo_job_for c job) a b h k
 
 module _ (judges : Judging) (answers : Answering) (judged_once : (file : Option (List ℕ)) (o o' : Found) → judges file o → judges file o' → o ≡ o') (answers_once : (c : Checked) (job : List ℕ) (a b : Answer) → answers c job a → answers c job b → a ≡ b) where
   job_once : (c : Checked) (job : Option (List ℕ)) (a b : Answer) → AnswersJob answers c job a → AnswersJob answers c job b → a ≡ b
@@ -85,6 +94,7 @@ module _ (judges : Judging) (answers : Answering) (judged_once : (file : Option 
 
 one_answer : (kind : Kind) (program job : Option (List ℕ)) (a b : Answer) → IsAnswer kind program job a → IsAnswer kind program job b → a ≡ b
 one_answer Run program job a b h k = answer_once JudgesWhole answers_run judges_whole_once run_once program job a b h k
+one_answer Split program job a b h k = answer_once JudgesWhole answers_split judges_whole_once split_once program job a b h k
 one_answer Solo program job a b h k = answer_once JudgesSplit answers_solo judges_split_once solo_once program job a b h k
 
 -- ---- only a refused program gives status 5, whatever the job is
@@ -93,15 +103,22 @@ calls_not_five : (c : Checked) (job : Result Job JobFault) (a : Answer) → Answ
 calls_not_five c (Err f) a h five = let e = ap (λ (x : Answer). x.0) h in absurd (omega arith)
 calls_not_five c (Ok job) a h five = let e = ap (λ (x : Answer). x.0) h in absurd (omega arith)
 
-split_not_five : (c : Checked) (job : Result Job JobFault) (a : Answer) → AnswersSplit c job a → a.0 ≡ 5 → ⊥
-split_not_five c (Err f) a h five = let e = ap (λ (x : Answer). x.0) h in absurd (omega arith)
-split_not_five c (Ok job) a h five = let e = h.0 in absurd (omega arith)
+parts_not_five : (c : Checked) (job : Result Job JobFault) (a : Answer) → AnswersParts c job a → a.0 ≡ 5 → ⊥
+parts_not_five c (Err f) a h five = let e = ap (λ (x : Answer). x.0) h in absurd (omega arith)
+parts_not_five c (Ok job) a h five = let e = h.0 in absurd (omega arith)
+
+report_not_five : (c : Checked) (job : Result Job JobFault) (a : Answer) → AnswersReport c job a → a.0 ≡ 5 → ⊥
+report_not_five c (Err f) a h five = let e = ap (λ (x : Answer). x.0) h in absurd (omega arith)
+report_not_five c (Ok job) a h five = let e = h.0 in absurd (omega arith)
 
 run_not_five : (c : Checked) (job : List ℕ) (a : Answer) → answers_run c job a → a.0 ≡ 5 → ⊥
 run_not_five c job a h five = calls_not_five c (job_for c job) a h five
 
+split_not_five : (c : Checked) (job : List ℕ) (a : Answer) → answers_split c job a → a.0 ≡ 5 → ⊥
+split_not_five c job a h five = parts_not_five c (split_job_for c job) a h five
+
 solo_not_five : (c : Checked) (job : List ℕ) (a : Answer) → answers_solo c job a → a.0 ≡ 5 → ⊥
-solo_not_five c job a h five = split_not_five c (solo_job_for c job) a h five
+solo_not_five c job a h five = report_not_five c (solo_job_for c job) a h five
 
 module _ (judges : Judging) (answers : Answering) (not_five : (c : Checked) (job : List ℕ) (a : Answer) → answers c job a → a.0 ≡ 5 → ⊥) where
   job_not_five : (c : Checked) (job : Option (List ℕ)) (a : Answer) → AnswersJob answers c job a → a.0 ≡ 5 → ⊥
@@ -117,6 +134,7 @@ module _ (judges : Judging) (answers : Answering) (not_five : (c : Checked) (job
 
 without : (kind : Kind) (program job job' : Option (List ℕ)) (a : Answer) → IsAnswer kind program job a → a.0 ≡ 5 → IsAnswer kind program job' a
 without Run program job job' a h five = answers_without JudgesWhole answers_run run_not_five program job job' a h five
+without Split program job job' a h five = answers_without JudgesWhole answers_split split_not_five program job job' a h five
 without Solo program job job' a h five = answers_without JudgesSplit answers_solo solo_not_five program job job' a h five
 
 -- ---- as far as the files are told
@@ -160,9 +178,13 @@ calls_status : (c : Checked) (job : Result Job JobFault) (a : Answer) → Answer
 calls_status c (Err f) a h = ap (λ (x : Answer). x.0) h
 calls_status c (Ok job) a h = ap (λ (x : Answer). x.0) h
 
-split_status : (c : Checked) (job : Result Job JobFault) (a : Answer) → AnswersSplit c job a → a.0 ≡ status_read job
-split_status c (Err f) a h = ap (λ (x : Answer). x.0) h
-split_status c (Ok job) a h = h.0
+parts_status : (c : Checked) (job : Result Job JobFault) (a : Answer) → AnswersParts c job a → a.0 ≡ status_read job
+parts_status c (Err f) a h = ap (λ (x : Answer). x.0) h
+parts_status c (Ok job) a h = h.0
+
+report_status : (c : Checked) (job : Result Job JobFault) (a : Answer) → AnswersReport c job a → a.0 ≡ status_read job
+report_status c (Err f) a h = ap (λ (x : Answer). x.0) h
+report_status c (Ok job) a h = h.0
 
 read_no_five : (r : Result Job JobFault) → status_read r ≡ 5 → ⊥
 read_no_five (Err f) h = absurd (omega (arith, h))
@@ -171,8 +193,11 @@ read_no_five (Ok x) h = absurd (omega (arith, h))
 run_status : (c : Checked) (job : List ℕ) (a : Answer) → answers_run c job a → a.0 ≡ status_read (job_for c job)
 run_status c job a h = calls_status c (job_for c job) a h
 
+split_status : (c : Checked) (job : List ℕ) (a : Answer) → answers_split c job a → a.0 ≡ status_read (split_job_for c job)
+split_status c job a h = parts_status c (split_job_for c job) a h
+
 solo_status : (c : Checked) (job : List ℕ) (a : Answer) → answers_solo c job a → a.0 ≡ status_read (solo_job_for c job)
-solo_status c job a h = split_status c (solo_job_for c job) a h
+solo_status c job a h = report_status c (solo_job_for c job) a h
 
 module _ (judges : Judging) (answers : Answering) (reads : Reading) (judged_once : (file : Option (List ℕ)) (o o' : Found) → judges file o → judges file o' → o ≡ o') (is_status : (c : Checked) (job : List ℕ) (a : Answer) → answers c job a → a.0 ≡ status_read (reads c job)) where
   job_status : (c : Checked) (job : Option (List ℕ)) (a : Answer) → AnswersJob answers c job a → a.0 ≡ status_of_job reads c job
@@ -202,10 +227,12 @@ module _ (judges : Judging) (answers : Answering) (reads : Reading) (judged_once
 
 status_once : (kind : Kind) (program job : Option (List ℕ)) (a : Answer) (n : ℕ) → IsAnswer kind program job a → HasStatus kind program job n → n ≡ a.0
 status_once Run program job a n h k = same_status JudgesWhole answers_run job_for judges_whole_once run_status program job a n h k
+status_once Split program job a n h k = same_status JudgesWhole answers_split split_job_for judges_whole_once split_status program job a n h k
 status_once Solo program job a n h k = same_status JudgesSplit answers_solo solo_job_for judges_split_once solo_status program job a n h k
 
 five_once : (kind : Kind) (program job job' : Option (List ℕ)) (a : Answer) (n : ℕ) → n ≡ 5 → IsAnswer kind program job a → HasStatus kind program job' n → n ≡ a.0
 five_once Run program job job' a n five h k = same_five JudgesWhole answers_run job_for judges_whole_once run_status program job job' a n five h k
+five_once Split program job job' a n five h k = same_five JudgesWhole answers_split split_job_for judges_whole_once split_status program job job' a n five h k
 five_once Solo program job job' a n five h k = same_five JudgesSplit answers_solo solo_job_for judges_split_once solo_status program job job' a n five h k
 
 pub fixed : (kind : Kind) (hp hj kp kj : Option (List ℕ)) (a : Answer) (n : ℕ) → IfSome hp (λ file. kept max_program file ≡ kp) → IfSome hj (λ file. kept max_job file ≡ kj) → IsAnswer kind kp kj a → FixesStatusBoth kind hp hj n → n ≡ a.0

@@ -10,10 +10,11 @@ use Rattle.px_job.specs.declared.job.JobCode.{JobCode}
 use Rattle.px_job.specs.declared.job.JobCode.TheVariants as code
 use Rattle.px_job.specs.Lines.{lines_of}
 use Rattle.px_job.specs.Jobs.{job_of}
-use Rattle.px_job.specs.Beyond.{beyond_from}
+use Rattle.px_job.specs.Beyond.{beyond_from, budget_from}
+use Rattle.px_parts.specs.Texts.{IsSplitText}
 use Rattle.px_report.specs.Lines.{line}
 use Rattle.px_main.specs.declared.command.Kind.{Kind}
-use Rattle.px_main.specs.declared.command.Kind.TheVariants.{Run, Solo}
+use Rattle.px_main.specs.declared.command.Kind.TheVariants.{Run, Split, Solo}
 use Rattle.px_main.specs.declared.fault.Fault.{Fault}
 use Rattle.px_main.specs.declared.fault.ProgramCode.{ProgramCode}
 use Rattle.px_main.specs.declared.fault.ProgramCode.TheVariants.{TooLong, Syntax, Rule, Later}
@@ -91,7 +92,7 @@ refused_job number name = (6, line (codes "job" ∷ decimal number ∷ name ∷ 
 abbrev pub refused_by : JobFault → Answer
 refused_by f = refused_job f.line (job_code f.code)
 
--- a job that is read by `solo`, which takes no line that two ends don't take yet
+-- a job that is read by a command that doesn't take this line yet
 abbrev pub taken_job : Option ℕ → Job → Result Job JobFault
 taken_job None job = Ok job
 taken_job (Some number) job = Err (record { line = number; code = code.Later })
@@ -104,18 +105,27 @@ taken_if beyond (Ok job) = taken_job beyond job
 abbrev pub job_for : Checked → List ℕ → Result Job JobFault
 job_for c bytes = job_of c c.schema (lowered c) bytes
 
+-- `solo` takes no line that two ends don't take yet, `split` no part with a budget
 abbrev pub solo_job_for : Checked → List ℕ → Result Job JobFault
 solo_job_for c bytes = taken_if (beyond_from 1 false (lines_of bytes)) (job_for c bytes)
+
+abbrev pub split_job_for : Checked → List ℕ → Result Job JobFault
+split_job_for c bytes = taken_if (budget_from 1 (lines_of bytes)) (job_for c bytes)
 
 -- `a` is an answer over the job that was read, or over what is wrong with it: `run` has one
 abbrev pub AnswersCalls : Checked → Result Job JobFault → Answer → Type 0
 AnswersCalls c (Err f) a = a ≡ refused_by f
 AnswersCalls c (Ok job) a = a ≡ (0, text_of c job (run_of c job))
 
+-- `split` answers with the texts of the parts
+abbrev pub AnswersParts : Checked → Result Job JobFault → Answer → Type 0
+AnswersParts c (Err f) a = a ≡ refused_by f
+AnswersParts c (Ok job) a = (a.0 ≡ 0) × IsSplitText (lowered c) job.parts a.1
+
 -- `solo` answers with a report
-abbrev pub AnswersSplit : Checked → Result Job JobFault → Answer → Type 0
-AnswersSplit c (Err f) a = a ≡ refused_by f
-AnswersSplit c (Ok job) a = (a.0 ≡ 0) × IsReport c job a.1
+abbrev pub AnswersReport : Checked → Result Job JobFault → Answer → Type 0
+AnswersReport c (Err f) a = a ≡ refused_by f
+AnswersReport c (Ok job) a = (a.0 ≡ 0) × IsReport c job a.1
 
 -- what a command makes of an accepted program and a job
 abbrev pub Answering : Type 1
@@ -124,8 +134,11 @@ Answering = Checked → List ℕ → Answer → Type 0
 abbrev pub answers_run : Answering
 answers_run c job a = AnswersCalls c (job_for c job) a
 
+abbrev pub answers_split : Answering
+answers_split c job a = AnswersParts c (split_job_for c job) a
+
 abbrev pub answers_solo : Answering
-answers_solo c job a = AnswersSplit c (solo_job_for c job) a
+answers_solo c job a = AnswersReport c (solo_job_for c job) a
 
 abbrev pub AnswersJob : Answering → Checked → Option (List ℕ) → Answer → Type 0
 AnswersJob answers c None a = a ≡ refused_job 0 (codes "J2")
@@ -147,6 +160,7 @@ pub record IsAnswerBy (judges : Judging) (answers : Answering) (program job : Op
 
 abbrev pub IsAnswer : Kind → Option (List ℕ) → Option (List ℕ) → Answer → Type 0
 IsAnswer Run program job a = IsAnswerBy JudgesWhole answers_run program job a
+IsAnswer Split program job a = IsAnswerBy JudgesWhole answers_split program job a
 IsAnswer Solo program job a = IsAnswerBy JudgesSplit answers_solo program job a
 
 -- the same over the files
@@ -191,6 +205,7 @@ pub record HasStatusBy (judges : Judging) (reads : Reading) (program job : Optio
 
 abbrev pub HasStatus : Kind → Option (List ℕ) → Option (List ℕ) → ℕ → Type 0
 HasStatus Run program job n = HasStatusBy JudgesWhole job_for program job n
+HasStatus Split program job n = HasStatusBy JudgesWhole split_job_for program job n
 HasStatus Solo program job n = HasStatusBy JudgesSplit solo_job_for program job n
 
 abbrev pub Statuses : Kind → List ℕ → List ℕ → ℕ → Type 0

@@ -2,7 +2,7 @@
 use Rattle.std.specs.Prelude.{ℕ, ◌&&◌, not, if◌then◌else◌, Bool, List, [], ◌∷◌, Option, Some, None, codes, length, ◌==◌}
 use Rattle.std.specs.Str.{bytes_eq}
 use Rattle.px_main.specs.declared.command.Kind.{Kind}
-use Rattle.px_main.specs.declared.command.Kind.TheVariants.{Run, Solo}
+use Rattle.px_main.specs.declared.command.Kind.TheVariants.{Run, Split, Solo}
 use Rattle.px_main.specs.declared.command.Command.{Command as CommandData}
 use Rattle.px_main.specs.declared.command.Command.TheVariants as command
 
@@ -16,13 +16,13 @@ abbrev pub is_named : List ℕ → Bool
 is_named name = not (length name == 0)
 
 abbrev pub kind_of : List ℕ → Option Kind
-kind_of word = if bytes_eq word (codes "run") then Some Run else if bytes_eq word (codes "solo") then Some Solo else None
+kind_of word = if bytes_eq word (codes "run") then Some Run else if bytes_eq word (codes "split") then Some Split else if bytes_eq word (codes "solo") then Some Solo else None
 
 abbrev pub command_with : List ℕ → List ℕ → Option Kind → Option Command
 command_with program job None = None
 command_with program job (Some kind) = if is_named program && is_named job then Some (Serves kind program job) else None
 
--- `check` and a name, or `run` or `solo` and two names
+-- `check` and a name, or `run`, `split` or `solo` and two names
 abbrev pub command_of : List (List ℕ) → Option Command
 command_of (word ∷ program ∷ []) = if bytes_eq word (codes "check") && is_named program then Some (Checks program) else None
 command_of (word ∷ program ∷ job ∷ []) = command_with program job (kind_of word)

@@ -3,8 +3,9 @@ ghost use Rattle.std.specs.Prelude.{◌≡◌, ◌≤◌, length, IfOk, IfSome};
 ghost use Rattle.std.specs.Option.{option_map};
 ghost use Rattle.px_job.specs.Jobs.{Gives};
 ghost use Rattle.px_main.specs.Whole.{JudgesWhole};
-ghost use Rattle.px_main.specs.Known.{IsSplit};
-ghost use Rattle.px_main.specs.Answers.{IsAnswer, IsAnswerBy, IsChecked, JudgesSplit, answers_run, answers_solo, solo_job_for, AnswersJob, refused_program, refused_job, refused_by, program_code as code_of_program, job_code as code_of_job, max_program, max_job};
+ghost use Rattle.px_main.specs.Known.{IsKnown, IsSplit};
+ghost use Rattle.px_lowering.specs.Programs.{lowered};
+ghost use Rattle.px_main.specs.Answers.{IsAnswer, IsAnswerBy, IsChecked, JudgesSplit, answers_run, answers_split, answers_solo, taken_job, split_job_for, solo_job_for, AnswersJob, refused_program, refused_job, refused_by, program_code as code_of_program, job_code as code_of_job, max_program, max_job};
 
 use crate::command::Kind;
 use crate::fault::{Fault, ProgramCode};
@@ -13,8 +14,10 @@ use crate::run::run;
 use crate::solo::solo;
 use crate::whole::judge_whole;
 use px_facts::Checked;
-use px_job::{Job, JobCode, JobError, JobFault, first_beyond, read_job};
+use px_job::{Job, JobCode, JobError, JobFault, first_beyond, first_budget, read_job};
 use px_lowering::lower;
+use px_normal::Code;
+use px_parts::split_text;
 use px_report::refusal_text;
 use std::alloc::{AllocError, Global};
 
@@ -99,6 +102,45 @@ fn answer_run(alloc: Global, checked: &Checked, bytes: &[u8]) -> Result<Prepared
     }
 }
 
+// A job that is read, unless its command doesn't take the line yet.
+fn unless_later(job: Job, beyond: Option<u32>) -> Result<Job, JobError>
+    ensures { Gives result (taken_job beyond job) }
+{
+    match beyond {
+        None => Ok(job),
+        Some(line) => {
+            let code = JobCode::Later;
+            Err(JobError::Fault(JobFault { line, code }))
+        }
+    }
+}
+
+// A job whose parts have no budgets.
+fn read_placed(alloc: Global, checked: &Checked, code: &Code, bytes: &[u8]) -> Result<Job, JobError>
+    requires code { code.now ≡ lowered checked.now }
+    requires fits { length bytes.now ≤ max_job }
+    ensures { Gives result (split_job_for checked.now bytes.now) }
+{
+    let job = read_job(alloc, bytes, checked, &checked.schema, code)?;
+    unless_later(job, first_budget(bytes))
+}
+
+fn answer_split(alloc: Global, checked: &Checked, bytes: &[u8]) -> Result<Prepared, AllocError>
+    requires known { IsKnown checked.now }
+    requires fits { length bytes.now ≤ max_job }
+    ensures { IfOk result (λ a. answers_split checked.now bytes.now (a.status, a.text.items)) }
+{
+    let code = lower(alloc, checked)?;
+    match read_placed(alloc, checked, &code, bytes) {
+        Ok(job) => {
+            let text = split_text(alloc, &code, job.parts.as_slice())?;
+            Ok(Prepared { status: 0, text })
+        }
+        Err(JobError::Fault(fault)) => refused(alloc, fault),
+        Err(JobError::NoMemory) => Err(AllocError),
+    }
+}
+
 // A job that two ends take.
 fn read_taken(alloc: Global, split: &Split, bytes: &[u8]) -> Result<Job, JobError>
     requires split { IsSplit split.now }
@@ -107,13 +149,7 @@ fn read_taken(alloc: Global, split: &Split, bytes: &[u8]) -> Result<Job, JobErro
 {
     let Split { checked, code, .. } = split;
     let job = read_job(alloc, bytes, checked, &checked.schema, code)?;
-    match first_beyond(bytes) {
-        None => Ok(job),
-        Some(line) => {
-            let code = JobCode::Later;
-            Err(JobError::Fault(JobFault { line, code }))
-        }
-    }
+    unless_later(job, first_beyond(bytes))
 }
 
 fn answer_solo(alloc: Global, split: Split, bytes: &[u8]) -> Result<Prepared, AllocError>
@@ -147,6 +183,22 @@ fn run_job(alloc: Global, checked: &Checked, job: &Option<Vec<u8>>) -> Result<Pr
     }
 }
 
+// The answer of `split` for a program that is accepted.
+fn split_job(
+    alloc: Global,
+    checked: &Checked,
+    job: &Option<Vec<u8>>,
+) -> Result<Prepared, AllocError>
+    requires known { IsKnown checked.now }
+    requires fits { IfSome job.now (λ bytes. length bytes.items ≤ max_job) }
+    ensures { IfOk result (λ a. AnswersJob answers_split checked.now (option_map (λ v. v.items) job.now) (a.status, a.text.items)) }
+{
+    match job {
+        Some(bytes) => answer_split(alloc, checked, bytes.as_slice()),
+        None => job_refused(alloc, 0, b"J2"),
+    }
+}
+
 // The answer of `solo` for a program that is accepted.
 fn solo_job(alloc: Global, split: Split, job: &Option<Vec<u8>>) -> Result<Prepared, AllocError>
     requires split { IsSplit split }
@@ -170,6 +222,21 @@ fn run_answer(
 {
     match judge_whole(alloc, program)? {
         Ok(checked) => run_job(alloc, &checked, job),
+        Err(fault) => program_refused(alloc, fault),
+    }
+}
+
+fn split_answer(
+    alloc: Global,
+    program: &Option<Vec<u8>>,
+    job: &Option<Vec<u8>>,
+) -> Result<Prepared, AllocError>
+    requires program { IfSome program.now (λ bytes. length bytes.items ≤ max_program) }
+    requires job { IfSome job.now (λ bytes. length bytes.items ≤ max_job) }
+    ensures { IfOk result (λ a. IsAnswerBy JudgesWhole answers_split (option_map (λ v. v.items) program.now) (option_map (λ v. v.items) job.now) (a.status, a.text.items)) }
+{
+    match judge_whole(alloc, program)? {
+        Ok(checked) => split_job(alloc, &checked, job),
         Err(fault) => program_refused(alloc, fault),
     }
 }
@@ -202,6 +269,7 @@ pub fn answer(
 {
     match kind {
         Kind::Run => run_answer(alloc, program, job),
+        Kind::Split => split_answer(alloc, program, job),
         Kind::Solo => solo_answer(alloc, program, job),
     }
 }

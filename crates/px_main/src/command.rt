@@ -9,6 +9,8 @@ ghost use Rattle.px_main.specs.Commands.{command_of, kind_of, told_by};
 pub enum Kind {
     /// The calls are run one after the other, from the tree.
     Run,
+    /// The program is placed by each part, and shown with its sends.
+    Split,
     /// The calls of one session are served by two ends.
     Solo,
 }
@@ -39,6 +41,9 @@ fn kind_of(word: &str) -> Option<Kind>
 {
     if is_text(word, "run") {
         return Some(Kind::Run);
+    }
+    if is_text(word, "split") {
+        return Some(Kind::Split);
     }
     if is_text(word, "solo") {
         return Some(Kind::Solo);

@@ -21,8 +21,8 @@ use Rattle.px_named.specs.Parts.{part_text}
 use Rattle.px_named.proofs.Forms.{named_do, named_if, named_loop}
 use Rattle.px_job.specs.declared.job.Part.{Part}
 use Rattle.px_parts.specs.Sides.{placement_of}
-use Rattle.px_parts.specs.Texts.{IsPartText, AreTexts, none, more}
-use Rattle.px_parts.specs.Law.{AreOwn, SplitIsOne}
+use Rattle.px_parts.specs.Texts.{IsPartText, AreTexts, none, more, AreOwn}
+use Rattle.px_parts.specs.Law.{SplitIsOne}
 
 -- ---- one placement, and the same sends at the statements
 
@@ -92,6 +92,9 @@ one_part : (code : Code) (part : Part) (t u : List ℕ) → AreOwn code → IsPa
 one_part code part t u own h k = h.is ∙ ap (part_text part.name) (one_named code (placement_of part) h.placed k.placed own h.sends k.sends) ∙ sym k.is
 
 -- the code and the parts fix the text
+one_text : (code : Code) (parts : List Part) (t u : List ℕ) → AreOwn code → AreTexts code parts t → AreTexts code parts u → t ≡ u
+one_text code [] _ _ own none none = refl
+one_text code (part ∷ parts) _ _ own (more {text = a} {rest = one} h hs) (more {text = b} {rest = other} k ks) = λ i. one_part code part a b own h k i ++ one_text code parts one other own hs ks i
+
 pub one_split : SplitIsOne
-one_split code [] _ _ own none none = refl
-one_split code (part ∷ parts) _ _ own (more {text = a} {rest = one} h hs) (more {text = b} {rest = other} k ks) = λ i. one_part code part a b own h k i ++ one_split code parts one other own hs ks i
+one_split code parts t u h k = one_text code parts t u h.own h.texts k.texts

@@ -1,15 +1,8 @@
 -- That code and parts fix the text.
 use Rattle.std.specs.Prelude.{◌≡◌, ℕ, List}
-use Rattle.px_normal.specs.declared.word.Word.{Word}
 use Rattle.px_normal.specs.declared.code.Code.{Code}
-use Rattle.px_flow_points.specs.Statements.{HasStatement}
-use Rattle.px_sync.specs.Sends.{IsOwn}
 use Rattle.px_job.specs.declared.job.Part.{Part}
-use Rattle.px_parts.specs.Texts.{AreTexts}
-
--- each statement has a node of its own
-abbrev pub AreOwn : Code → Type 0
-AreOwn code = (m node : ℕ) (word : Word) → HasStatement code m node word → IsOwn code node
+use Rattle.px_parts.specs.Texts.{IsSplitText}
 
 abbrev pub SplitIsOne : Type 0
-SplitIsOne = (code : Code) (parts : List Part) (t u : List ℕ) → AreOwn code → AreTexts code parts t → AreTexts code parts u → t ≡ u
+SplitIsOne = (code : Code) (parts : List Part) (t u : List ℕ) → IsSplitText code parts t → IsSplitText code parts u → t ≡ u

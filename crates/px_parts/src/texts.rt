@@ -2,7 +2,7 @@
 ghost use Rattle.std.specs.Prelude.{◌≡◌, ◌++◌, List, ℕ, IfOk, OnOk};
 ghost use Rattle.px_flow_points.specs.There.{NumbersExist};
 ghost use Rattle.px_flow_points.specs.ByNode.{AreTouched};
-ghost use Rattle.px_parts.specs.Texts.{IsPartText, AreTexts};
+ghost use Rattle.px_parts.specs.Texts.{IsPartText, AreOwn, IsSplitText};
 
 use crate::sides::placement_of;
 use px_flow_points::{Points, points_to};
@@ -31,8 +31,9 @@ fn push_placed(
 
 /// The code at the placement of each part, with the sends that it needs there.
 pub fn split_text(alloc: Global, code: &Code, parts: &[Part]) -> Result<Vec<u8>, AllocError>
-    requires { NumbersExist code.now }
-    ensures { IfOk result (λ text. AreTexts code.now parts.now text.items) }
+    requires numbers { NumbersExist code.now }
+    requires own { AreOwn code.now }
+    ensures { IfOk result (λ text. IsSplitText code.now parts.now text.items) }
 {
     let points = points_to(alloc, code)?;
     let mut text = Vec::new(alloc);
