@@ -29,13 +29,7 @@ pub fn chosen(exit: Exit, truth: bool) -> u32
     ensures { result ≡ exit_chosen exit truth }
 {
     match exit {
-        Exit::Branch { yes, no } => {
-            if truth {
-                yes
-            } else {
-                no
-            }
-        }
+        Exit::Branch { yes, no } => { if truth { yes } else { no } }
         _ => onward(exit),
     }
 }
