@@ -1,11 +1,11 @@
 -- A method is called.
-use Rattle.std.proofs.Common.{◌≡◌, ℕ, suc, ◌+◌, ◌<◌, ◌≤◌, nat_lt, Bool, true, false, List, [], ◌∷◌, ◌++◌, length, refl, sym, ap, ◌∙◌, arith}
+use Rattle.std.proofs.Common.{◌≡◌, ℕ, suc, ◌+◌, ◌<◌, ◌≤◌, nat_lt, Bool, true, false, List, [], ◌∷◌, ◌++◌, length, sym, ap, ◌∙◌, arith}
 use Rattle.std.proofs.lemmas.Bool.{lt-ltb, le-ltb}
 use Rattle.px_value.specs.Limits.{all_frames}
 use Rattle.px_value.specs.declared.value.Value.{Value}
 use Rattle.px_value.specs.declared.thrown.Thrown.TheVariants.{StackOverflowError}
 use Rattle.px_normal.specs.declared.code.Code.{Code}
-use Rattle.px_blocks.specs.Machine.{Control, Left, entered, turned_if, called, pushed, pushed_if, max_stack, goes, fails}
+use Rattle.px_blocks.specs.Machine.{Control, entered, turned_if, called, pushed_if, max_stack, goes, fails}
 
 abbrev turns_on : Control → Control
 turns_on c = record c { turns = c.turns + 1 }

@@ -1,10 +1,10 @@
 -- A frame is left.
-use Rattle.std.proofs.Common.{◌≡◌, ℕ, zero, suc, ◌+◌, ◌-◌, ◌≤◌, List, [], ◌∷◌, map, take, length, min, Option, Some, None, unwrap_or, refl, sym, ap, ◌∙◌, subst, arith}
+use Rattle.std.proofs.Common.{◌≡◌, ℕ, zero, suc, ◌-◌, ◌≤◌, List, take, length, min, Option, Some, None, unwrap_or, refl, sym, ap, ◌∙◌, arith}
 use Rattle.std.proofs.lemmas.List.{length-take-le}
 use Rattle.px_value.specs.declared.value.Value.{Value}
 use Rattle.px_value.specs.declared.value.Value.TheVariants.{Null}
 use Rattle.px_blocks.specs.declared.block.Block.{Block}
-use Rattle.px_blocks.specs.Machine.{Frame, Control, Back, Left, top, with_frames, put_in_slot, least, one_less, cut, popped, returns, back_from, left_with, goes}
+use Rattle.px_blocks.specs.Machine.{Frame, Control, Back, top, with_frames, put_in_slot, least, one_less, cut, popped, returns, back_from, left_with, goes}
 use Rattle.px_blocks.specs.Message.{all_settled}
 use Rattle.px_control.specs.declared.back.Back.{Back as BackData}
 use Rattle.px_control.specs.Stack.{filled_if, IsQuietBelow, machine_back}

@@ -6,3 +6,7 @@ pub mod Reading
 pub mod Quiet
 pub mod Leaving
 pub mod Calling
+pub mod Ordering
+pub mod Carrying
+pub mod Written
+pub mod Counting

@@ -1,10 +1,10 @@
 -- Frames in which no slot is written stay so while fewer of them are counted.
-use Rattle.std.proofs.Common.{◌≡◌, ℕ, zero, suc, ◌+◌, ◌-◌, ◌<◌, ◌≤◌, List, [], ◌∷◌, map, take, length, min, Option, Some, None, slice_get, slice_set, refl, sym, ap, ◌∙◌, subst, arith}
-use Rattle.std.proofs.lemmas.List.{take-map, take-set-le, length-set, length-take-le}
+use Rattle.std.proofs.Common.{◌≡◌, ℕ, zero, suc, ◌≤◌, List, [], ◌∷◌, take, length, Option, Some, None, slice_get, refl, sym, ap, ◌∙◌, arith}
+use Rattle.std.proofs.lemmas.List.{take-map, take-set-le, length-set}
 use Rattle.px_value.specs.declared.value.Value.{Value}
 use Rattle.px_blocks.specs.Machine.{Frame, with_slot_in}
 use Rattle.px_blocks.specs.Message.{settled_frame, all_settled}
-use Rattle.px_control.specs.Stack.{filled_if, IsQuietBelow}
+use Rattle.px_control.specs.Stack.{filled_if}
 
 pub take_less : {A : Type 0} (k n : ℕ) (xs : List A) → k ≤ n → take k (take n xs) ≡ take k xs
 take_less zero n xs h = refl

@@ -1,11 +1,10 @@
 -- A set of marks or of names, as the list that the machine has.
-use Rattle.std.proofs.Common.{◌≡◌, ℕ, zero, suc, nat_eq, Bool, true, false, ◌&&◌, ◌||◌, List, [], ◌∷◌, ◌++◌, map, refl, ap, ◌∙◌, sym}
+use Rattle.std.proofs.Common.{◌≡◌, ℕ, zero, suc, nat_eq, Bool, true, false, ◌&&◌, ◌||◌, List, [], ◌∷◌, ◌++◌, map, refl, ap, ◌∙◌}
 use Rattle.std.specs.Prelude.{if◌then◌else◌}
 use Rattle.std.specs.List.{list_any}
 use Rattle.std.proofs.lemmas.List.{map-append}
 use Rattle.std.proofs.Math.Dec.{eqb-zero-suc, eqb-suc-zero, eqb-suc-suc}
 use Rattle.indexmap.specs.IndexSet.{insert_key}
-use Rattle.px_effects.specs.Act.{Place as Cell}
 use Rattle.px_blocks.specs.declared.block.SendKind.{SendKind}
 use Rattle.px_blocks.specs.declared.block.SendKind.TheVariants as send
 use Rattle.px_blocks.specs.declared.block.Naming.{Naming}

@@ -1,5 +1,5 @@
-use Rattle.std.proofs.Common.{◌≡◌, ◌+◌, ◌<◌, List, [], ◌∷◌, ◌++◌, length, drop, get_or, map, refl, sym, ap, ◌∙◌, arith, rules}
-use Rattle.px_blocks.specs.Machine.{Slot, just_written, unwritten, blank_slots, given}
+use Rattle.std.proofs.Common.{◌≡◌, ◌+◌, List, [], ◌∷◌, ◌++◌, drop, get_or, ap, ◌∙◌, arith}
+use Rattle.px_blocks.specs.Machine.{Slot, just_written, unwritten, given}
 use Rattle.std.specs.Vec.Iter.{into_iter_items}
 use Rattle.px_normal.specs.declared.ty.Ty.TheVariants.{Int}
 use Rattle.px_value.specs.declared.value.Value.{Value}

@@ -1,5 +1,5 @@
 use Rattle.std.proofs.Common.{◌≡◌, ℕ, ◌+◌, ◌<◌, ◌≤◌, List, [], ◌∷◌, ◌++◌, length, sym, ap, ◌∙◌, arith}
-use Rattle.px_blocks.specs.Machine.{Frame, Slot, Control, entered, goes}
+use Rattle.px_blocks.specs.Machine.{Frame, Slot, entered, goes}
 use Rattle.px_control.specs.contracts.control.Control.{the_view}
 use Rattle.px_control.proofs.Calling.{overflows, enters}
 use Rattle.px_control.proofs.control.Control.call.Goals as goal

@@ -1,6 +1,5 @@
-use Rattle.std.proofs.Common.{◌≡◌, ℕ, ◌-◌, List, take, min, unwrap_or, sym, ap, ◌∙◌}
-use Rattle.px_value.specs.declared.value.Value.TheVariants.{Null}
-use Rattle.px_blocks.specs.Machine.{Frame, Control, top, back_from, left_with}
+use Rattle.std.proofs.Common.{◌≡◌, ℕ, ◌-◌, List, take, min, sym, ap, ◌∙◌}
+use Rattle.px_blocks.specs.Machine.{Frame, top, back_from, left_with}
 use Rattle.px_control.specs.contracts.control.Control.{the_view}
 use Rattle.px_control.specs.Stack.{filled_if, machine_back}
 use Rattle.px_control.proofs.Leaving.{left_is, quiet_left}

@@ -1,4 +1,4 @@
-use Rattle.std.proofs.Common.{◌≡◌, Some, None, slice_get, sym, ap, ◌∙◌}
+use Rattle.std.proofs.Common.{Some, None, slice_get, sym, ap, ◌∙◌}
 use Rattle.px_normal.specs.Words.{operand}
 use Rattle.px_blocks.specs.Machine.{values_of, slots_at, top}
 use Rattle.px_control.specs.Stack.{object_in}

@@ -1,6 +1,5 @@
-use Rattle.std.proofs.Common.{◌≡◌, List, [], ◌∷◌, map, ap, ◌∙◌}
-use Rattle.px_effects.specs.Act.{Place as Cell}
-use Rattle.px_blocks.specs.Machine.{marked, with_marks}
+use Rattle.std.proofs.Common.{List, [], ◌∷◌, map, ap, ◌∙◌}
+use Rattle.px_blocks.specs.Machine.{with_marks}
 use Rattle.px_control.specs.declared.marks.Mark.{Mark}
 use Rattle.px_control.specs.Marks.{cell_of}
 use Rattle.px_control.proofs.Sets.{mark_added}

@@ -1,4 +1,4 @@
-use Rattle.std.proofs.Common.{◌≡◌, List, ap, ◌∙◌}
+use Rattle.std.proofs.Common.{List, ap, ◌∙◌}
 use Rattle.px_effects.specs.Act.{Place as Cell}
 use Rattle.px_blocks.specs.Machine.{marked}
 use Rattle.px_control.proofs.Sets.{marked_is}

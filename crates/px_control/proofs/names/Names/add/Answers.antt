@@ -1,4 +1,4 @@
-use Rattle.std.proofs.Common.{◌≡◌, List, [], ◌∷◌, map, ap, ◌∙◌}
+use Rattle.std.proofs.Common.{List, [], ◌∷◌, map, ap, ◌∙◌}
 use Rattle.px_blocks.specs.Machine.{with_names}
 use Rattle.px_control.specs.declared.names.Name.{Name}
 use Rattle.px_control.specs.Names.{naming_of}

@@ -1,4 +1,4 @@
-use Rattle.std.proofs.Common.{◌≡◌, List, ap, ◌∙◌}
+use Rattle.std.proofs.Common.{List, ap, ◌∙◌}
 use Rattle.std.specs.List.{list_any}
 use Rattle.px_blocks.specs.declared.block.Naming.{Naming}
 use Rattle.px_blocks.specs.Machine.{has_naming}

@@ -1,4 +1,4 @@
-use Rattle.std.proofs.Common.{◌≡◌, List, slice_set, ap, ◌∙◌}
+use Rattle.std.proofs.Common.{List, slice_set, ap, ◌∙◌}
 use Rattle.std.proofs.lemmas.List.{map-set}
 use Rattle.px_blocks.specs.Machine.{Slot, unwritten}
 use Rattle.px_control.specs.Slots.{slot_of}
