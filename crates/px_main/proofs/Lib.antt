@@ -13,3 +13,4 @@ pub mod Reading
 pub mod Reported
 pub mod Shown
 pub mod Taken
+pub mod Placeable

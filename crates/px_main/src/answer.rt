@@ -5,6 +5,8 @@ ghost use Rattle.px_job.specs.Jobs.{Gives};
 ghost use Rattle.px_main.specs.Whole.{JudgesWhole};
 ghost use Rattle.px_main.specs.Known.{IsKnown, IsSplit};
 ghost use Rattle.px_lowering.specs.Programs.{lowered};
+ghost use Rattle.px_flow_points.specs.There.{NumbersExist};
+ghost use Rattle.px_parts.specs.Texts.{AreOwn, IsSplitText};
 ghost use Rattle.px_main.specs.Answers.{IsAnswer, IsAnswerBy, IsChecked, JudgesSplit, answers_run, answers_split, answers_solo, taken_job, split_job_for, solo_job_for, AnswersJob, refused_program, refused_job, refused_by, program_code as code_of_program, job_code as code_of_job, max_program, max_job};
 
 use crate::command::Kind;
@@ -14,7 +16,7 @@ use crate::run::run;
 use crate::solo::solo;
 use crate::whole::judge_whole;
 use px_facts::Checked;
-use px_job::{Job, JobCode, JobError, JobFault, first_beyond, first_budget, read_job};
+use px_job::{Job, JobCode, JobError, JobFault, Part, first_beyond, first_budget, read_job};
 use px_lowering::lower;
 use px_normal::Code;
 use px_parts::split_text;
@@ -125,20 +127,41 @@ fn read_placed(alloc: Global, checked: &Checked, code: &Code, bytes: &[u8]) -> R
     unless_later(job, first_budget(bytes))
 }
 
+// The texts of the parts of a job.
+fn show_parts(alloc: Global, code: &Code, parts: &[Part]) -> Result<Prepared, AllocError>
+    requires numbers { NumbersExist code.now }
+    requires own { AreOwn code.now }
+    ensures { IfOk result (λ a. (a.status ≡ 0) × IsSplitText code.now parts.now a.text.items) }
+{
+    let text = split_text(alloc, code, parts)?;
+    Ok(Prepared { status: 0, text })
+}
+
+fn answer_parts(
+    alloc: Global,
+    checked: &Checked,
+    code: &Code,
+    bytes: &[u8],
+) -> Result<Prepared, AllocError>
+    requires known { IsKnown checked.now }
+    requires code { code.now ≡ lowered checked.now }
+    requires fits { length bytes.now ≤ max_job }
+    ensures { IfOk result (λ a. answers_split checked.now bytes.now (a.status, a.text.items)) }
+{
+    match read_placed(alloc, checked, code, bytes) {
+        Ok(job) => show_parts(alloc, code, job.parts.as_slice()),
+        Err(JobError::Fault(fault)) => refused(alloc, fault),
+        Err(JobError::NoMemory) => Err(AllocError),
+    }
+}
+
 fn answer_split(alloc: Global, checked: &Checked, bytes: &[u8]) -> Result<Prepared, AllocError>
     requires known { IsKnown checked.now }
     requires fits { length bytes.now ≤ max_job }
     ensures { IfOk result (λ a. answers_split checked.now bytes.now (a.status, a.text.items)) }
 {
     let code = lower(alloc, checked)?;
-    match read_placed(alloc, checked, &code, bytes) {
-        Ok(job) => {
-            let text = split_text(alloc, &code, job.parts.as_slice())?;
-            Ok(Prepared { status: 0, text })
-        }
-        Err(JobError::Fault(fault)) => refused(alloc, fault),
-        Err(JobError::NoMemory) => Err(AllocError),
-    }
+    answer_parts(alloc, checked, &code, bytes)
 }
 
 // A job that two ends take.

@@ -1,3 +1,3 @@
-mod Own
+pub mod Own
 pub mod Programs
 pub mod Numbers
