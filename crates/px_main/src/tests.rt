@@ -6,6 +6,7 @@ mod meaning;
 mod outside;
 mod rules;
 mod solo;
+mod split;
 mod tables;
 
 use crate::top::still;
