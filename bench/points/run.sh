@@ -1,6 +1,6 @@
 #!/usr/bin/env bash
 # Builds main.rt.txt unproved, in a scratch copy of the repository, and prints for each program: nodes, sites, edges, microseconds to judge, for points-to,
-# for dependences, and the kilobytes of the process. Sizes may be given: run.sh 2 4.
+# and for dependences. Sizes may be given: run.sh 2 4.
 # The program that `rt try` builds checks every address, and is some twenty times slower than one that was proved: compare, don't quote.
 set -e
 here="$(cd "$(dirname "$0")" && pwd)"
