@@ -1,0 +1,6 @@
+//! What statements do to a heap, run.
+#![tactic(auto)]
+
+mod store;
+
+pub use store::Store;
