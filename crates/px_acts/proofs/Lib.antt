@@ -1,2 +1,4 @@
 pub mod Writes
 pub mod Undoes
+pub mod Sizes
+pub mod Short

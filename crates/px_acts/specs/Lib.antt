@@ -1,1 +1,5 @@
 pub mod Undo
+pub mod Stops
+pub mod Places
+pub mod Ends
+pub mod Standings
