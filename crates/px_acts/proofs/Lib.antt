@@ -2,3 +2,5 @@ pub mod Writes
 pub mod Undoes
 pub mod Sizes
 pub mod Short
+pub mod Making
+pub mod Blanks

@@ -3,3 +3,4 @@ pub mod Stops
 pub mod Places
 pub mod Ends
 pub mod Standings
+pub mod Slots

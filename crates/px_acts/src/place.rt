@@ -11,5 +11,5 @@ pub struct Place {
 #[derive(Clone, Copy, Debug, PartialEq, Eq)]
 pub struct Cells {
     pub object: u32,
-    pub count: u32,
+    pub count: usize,
 }

@@ -1,13 +1,15 @@
 //! Result sets.
-ghost use Rattle.std.specs.Prelude.{◌≡◌, ◌∷◌, pos, IfOk, OnErr};
+ghost use Rattle.std.specs.Prelude.{◌≡◌, ℕ, [], ◌∷◌, pos, IfOk, OnErr};
 ghost use Rattle.px_value.specs.declared.value.Value.TheVariants.{Int};
+ghost use Rattle.px_value.specs.declared.answer.Answer.TheVariants.{Rows};
 ghost use Rattle.px_effects.specs.Act.{acted, Comes};
 ghost use Rattle.px_effects.specs.Cells.{Fresh, first_cells};
 ghost use Rattle.px_effects.specs.Rows as mean;
 ghost use Rattle.px_normal.specs.First.{statements_of};
-ghost use Rattle.px_acts.specs.Ends.{Ends, Writes};
+ghost use Rattle.px_acts.specs.Ends.{Ends, Writes, Makes};
 
 use crate::cells::{Done, read_cell, reference, size_value, write_cell};
+use crate::objects::allocate;
 use crate::place::Cells;
 use crate::standing::{cell_in, moved, standing_at};
 use crate::stop::Stop;
@@ -112,4 +114,51 @@ fn with_cursor(alloc: Global, cells: &[Value]) -> Result<Values, AllocError>
         values.push(cell.copy(alloc)?)?;
     }
     Ok(values)
+}
+
+// The rows as an object, whose values are written behind its cursor.
+fn rows_object(
+    alloc: Global,
+    store: &mut Store,
+    number: u16,
+    site: u16,
+    cells: &[Value],
+) -> Result<Made, Stop>
+    ensures acted { (fresh : Fresh) (width : ℕ) → Makes (acted (first_cells fresh) (mean.make_rows number site (Rows width cells.now)) store.old.heap) result store.new.heap }
+    ensures closed { store.new.closed ≡ store.old.closed }
+    ensures kept { OnErr result (store.new.heap ≡ store.old.heap) }
+{
+    let object = store.heap().len();
+    let all = with_cursor(alloc, cells)?;
+    let value = allocate(store, Kind::Rows(number), site, all)?;
+    Ok(Made {
+        value,
+        wrote: Some(Cells {
+            object,
+            count: cells.len(),
+        }),
+    })
+}
+
+/// The rows of an answer, as an object.
+pub fn make_rows(
+    alloc: Global,
+    store: &mut Store,
+    number: u16,
+    site: u16,
+    answer: &Answer,
+) -> Result<Made, Stop>
+    ensures acted { (fresh : Fresh) → Makes (acted (first_cells fresh) (mean.make_rows number site answer.now) store.old.heap) result store.new.heap }
+    ensures closed { store.new.closed ≡ store.old.closed }
+    ensures kept { OnErr result (store.new.heap ≡ store.old.heap) }
+{
+    match answer {
+        Answer::Rows { width: _, cells } => {
+            rows_object(alloc, store, number, site, cells.as_slice())
+        }
+        _ => Ok(Made {
+            value: Value::Null,
+            wrote: None,
+        }),
+    }
 }
