@@ -1,15 +1,24 @@
 -- The values of rows are written into blank cells of a new object, one after the other.
-use Rattle.std.proofs.Common.{◌≡◌, ℕ, zero, suc, Bool, true, false, List, [], ◌∷◌, ◌++◌, length, replicate, pos, Option, Some, Ok, Result, is_some, slice_get, slice_set, refl, sym, ap, ◌∙◌, subst}
+use Rattle.std.proofs.Common.{◌≡◌, ℕ, zero, suc, Bool, true, false, List, [], ◌∷◌, ◌++◌, length, replicate, pos, Option, Some, Ok, Err, Result, is_some, slice_get, slice_set, refl, sym, ap, ◌∙◌, subst}
+use Rattle.std.specs.Result.{IsErrAnd}
 use Rattle.px_value.specs.declared.value.Value.{Value}
 use Rattle.px_value.specs.declared.value.Value.TheVariants.{Int, Null, Ref}
 use Rattle.px_value.specs.declared.object.Object.{Object}
 use Rattle.px_value.specs.declared.header.Header.{Header}
 use Rattle.px_value.specs.Heap.{with_cell, written, cell_at, cell_of}
-use Rattle.px_effects.specs.Act.{Firsts, Acted, acted, also_wrote, Place as Cell}
-use Rattle.px_effects.specs.Cells.{comes}
-use Rattle.px_effects.specs.Rows.{all_written}
+use Rattle.px_value.specs.declared.header.Kind.TheVariants as kind
+use Rattle.px_value.specs.declared.thrown.Thrown.{Thrown}
+use Rattle.px_value.specs.declared.thrown.Thrown.TheVariants.{HeapFull}
+use Rattle.px_value.specs.declared.answer.Answer.TheVariants.{Rows}
+use Rattle.px_effects.specs.Act.{Firsts, Acted, acted, Came, quiet, unless_full, has_no_room, also_wrote, Place as Cell}
+use Rattle.px_effects.specs.Cells.{comes, Fresh, first_cells, rows_header}
+use Rattle.px_effects.specs.Rows.{all_written, make_rows}
+use Rattle.px_acts.specs.declared.stop.Stop.{Stop}
+use Rattle.px_acts.specs.declared.stop.Stop.TheVariants.{Threw, NoMemory}
+use Rattle.px_acts.proofs.Making.{header, Allocates}
 use Rattle.px_acts.specs.Places.{cells_from}
-use Rattle.px_acts.specs.Ends.{IsEnd}
+use Rattle.px_acts.specs.declared.rows.Made.{Made}
+use Rattle.px_acts.specs.Ends.{IsEnd, Stops, Makes}
 
 last_at : (heap : List Object) (o : Object) → slice_get (heap ++ o ∷ []) (length heap) ≡ Some o
 last_at [] o = refl
@@ -71,3 +80,55 @@ module _ (heap : List Object) (h : Header) where
       let ended = subst (λ (x : List Object). IsEnd (acted firsts (all_written (length heap) (suc (length front)) cells (comes v)) (written (last (front ++ Null ∷ rest)) (length heap) (length front) c)) (Ok v) (cells_from (length heap) (suc (length front)) (length cells)) x) (ap last (one_behind front cells c)) blank in
       also (is_some (cell_at (last (front ++ Null ∷ rest)) (length heap) (length front))) (place (length front)) (acted firsts (all_written (length heap) (suc (length front)) cells (comes v)) (written (last (front ++ Null ∷ rest)) (length heap) (length front) c)) v
       (cells_from (length heap) (suc (length front)) (length cells)) (last (front ++ c ∷ cells)) (last_cell front rest Null) ended
+
+-- ---- a result set
+
+-- where the object is made, its values are written too
+many_made : (full : Bool) (many : Acted) (heap whole new : List Object) (x v : Value) (cells : List Cell)
+    → IsEnd (unless_full full (quiet (Came (Ok x)) whole) heap) (Ok v) [] new → IsEnd many (Ok x) cells whole → IsEnd (unless_full full many heap) (Ok v) cells new
+many_made true many heap whole new x v cells h e = absurd (not_full (h.comes))
+  where
+    not_full : Came (Err HeapFull) ≡ Came (Ok v) → ⊥
+    not_full q = absurd cc
+many_made false many heap whole new x v cells h e = record { comes = e.comes ∙ h.comes; wrote = e.wrote; left = e.left ∙ h.left }
+
+none_made : (full : Bool) (many : Acted) (heap whole new : List Object) (x : Value) (t : Thrown)
+    → IsEnd (unless_full full (quiet (Came (Ok x)) whole) heap) (Err t) [] new → IsEnd (unless_full full many heap) (Err t) [] new
+none_made true many heap whole new x t h = record { comes = h.comes; wrote = refl; left = h.left }
+none_made false many heap whole new x t h = absurd (not_made h.comes)
+  where
+    not_made : Came (Ok x) ≡ Came (Err t) → ⊥
+    not_made q = absurd cc
+
+stopped : (full : Bool) (many : Acted) (heap whole new : List Object) (x : Value) (e : Stop)
+    → Stops (unless_full full (quiet (Came (Ok x)) whole) heap) e new → Stops (unless_full full many heap) e new
+stopped full many heap whole new x (Threw t) h = none_made full many heap whole new x t h
+stopped full many heap whole new x NoMemory h = tt
+
+makes_stopped : (a : Acted) (r : Result Made Stop) (e : Stop) (heap : List Object) → IsErrAnd r (λ y. y ≡ e) → Stops a e heap → Makes a r heap
+makes_stopped a (Ok m) e heap i h = absurd i
+makes_stopped a (Err y) e heap i h = subst (λ (x : Stop). Stops a x heap) (sym i) h
+
+module _ (fresh : Fresh) (number site width : ℕ) (cells all : List Value) (heap new : List Object) (is : all ≡ Int (pos 0) ∷ cells) where
+  abbrev full : List Value → Bool
+  full vs = has_no_room (kind.Rows number) (length vs) heap
+
+  abbrev one : Value
+  one = Ref (length heap)
+
+  abbrev with_all : List Value → Acted
+  with_all vs = unless_full (full vs) (quiet (Came (Ok one)) (heap ++ record { header = header (kind.Rows number) site (length vs); cells = vs } ∷ [])) heap
+
+  pub rows_done : (object : ℕ) (v : Value) → object ≡ length heap → Allocates (kind.Rows number) site all heap (Ok v) new
+      → IsEnd (acted (first_cells fresh) (make_rows number site (Rows width cells)) heap) (Ok v) (cells_from object 1 (length cells)) new
+  rows_done object v at h =
+      subst (λ (n : ℕ). IsEnd (acted (first_cells fresh) (make_rows number site (Rows width cells)) heap) (Ok v) (cells_from n 1 (length cells)) new) (sym at) (
+      let made = subst (λ (vs : List Value). IsEnd (with_all vs) (Ok v) [] new) is (h (λ _. all) refl) in
+      many_made (full (Int (pos 0) ∷ cells)) _ heap (last heap (rows_header number site (length cells)) (Int (pos 0) ∷ cells)) new one v (cells_from (length heap) 1 (length cells)) made
+      (blanks heap (rows_header number site (length cells)) (first_cells fresh) (Int (pos 0) ∷ []) cells one))
+
+  pub rows_stopped : (e : Stop) (r : Result Made Stop) → IsErrAnd r (λ y. y ≡ e) → Allocates (kind.Rows number) site all heap (Err e) new
+      → Makes (acted (first_cells fresh) (make_rows number site (Rows width cells)) heap) r new
+  rows_stopped e r q h =
+      let none = subst (λ (vs : List Value). Stops (with_all vs) e new) is (h (λ _. all) refl) in
+      makes_stopped _ r e new q (stopped (full (Int (pos 0) ∷ cells)) _ heap (last heap (rows_header number site (length cells)) (Int (pos 0) ∷ cells)) new one e none)

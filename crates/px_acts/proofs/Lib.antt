@@ -4,3 +4,4 @@ pub mod Sizes
 pub mod Short
 pub mod Making
 pub mod Blanks
+pub mod WithOperands

@@ -4,3 +4,5 @@ pub mod Places
 pub mod Ends
 pub mod Standings
 pub mod Slots
+pub mod Did
+pub mod Answers

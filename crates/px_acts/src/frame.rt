@@ -49,3 +49,16 @@ pub fn push_operands(
     }
     Ok(())
 }
+
+/// Copies of the values of operands.
+pub fn operands(
+    alloc: Global,
+    slots: &[Slot],
+    operands: &[Operand],
+) -> Result<Values, AllocError>
+    ensures { IfOk result (λ vs. vs ≡ words.operands (values_in slots.now) operands.now) }
+{
+    let mut values = Values::new(alloc);
+    push_operands(alloc, slots, operands, &mut values)?;
+    Ok(values)
+}
