@@ -5,3 +5,4 @@ pub mod Short
 pub mod Making
 pub mod Blanks
 pub mod WithOperands
+pub mod Landing

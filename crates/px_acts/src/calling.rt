@@ -28,6 +28,21 @@ fn invokes_at(
     Ok(Does::Invokes { method, values })
 }
 
+fn invokes_on_value(
+    alloc: Global,
+    slots: &[Slot],
+    of: &Value,
+    method: u16,
+    args: &[Operand],
+) -> Result<Does, AllocError>
+    ensures { (firsts : Firsts) (shared : Shared) → IfOk result (λ d. Did firsts (invokes_on of.now method (words.operands (values_in slots.now) args.now)) shared d shared) }
+{
+    match of {
+        Value::Ref(object) => invokes_at(alloc, slots, *object, method, args),
+        _ => Ok(comes(Err(Thrown::NullPointerException))),
+    }
+}
+
 /// A method is called on the value of an operand (JLS 15.12.4.4).
 pub fn invokes(
     alloc: Global,
@@ -38,8 +53,6 @@ pub fn invokes(
 ) -> Result<Does, AllocError>
     ensures { (firsts : Firsts) (shared : Shared) → IfOk result (λ d. Did firsts (invokes_on (words.operand (values_in slots.now) of.now) method (words.operands (values_in slots.now) args.now)) shared d shared) }
 {
-    match operand(alloc, slots, of)? {
-        Value::Ref(object) => invokes_at(alloc, slots, object, method, args),
-        _ => Ok(comes(Err(Thrown::NullPointerException))),
-    }
+    let of = operand(alloc, slots, of)?;
+    invokes_on_value(alloc, slots, &of, method, args)
 }

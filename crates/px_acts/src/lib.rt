@@ -22,7 +22,7 @@ mod store;
 
 pub use answering::{Answered, answer};
 pub use cells::{Done, array_length, get_field, load, put_field, store_element};
-pub use does::Does;
+pub use does::{Does, do_word};
 pub use objects::{make_array, make_object};
 pub use frame::{Slot, operand, operands};
 pub use operations::{copy_statement, sent};
