@@ -7,10 +7,11 @@ ghost use Rattle.px_acts.specs.Slots.{values_in};
 ghost use Rattle.px_acts.specs.Did.{Did, Shared};
 
 use crate::came::comes;
+use crate::cells::reference;
 use crate::does::Does;
 use crate::frame::{Slot, operand, push_operands};
 use px_normal::Operand;
-use px_value::{Thrown, Value, Values};
+use px_value::{Value, Values};
 use std::alloc::{AllocError, Global};
 
 fn invokes_at(
@@ -37,9 +38,9 @@ fn invokes_on_value(
 ) -> Result<Does, AllocError>
     ensures { (firsts : Firsts) (shared : Shared) → IfOk result (λ d. Did firsts (invokes_on of.now method (words.operands (values_in slots.now) args.now)) shared d shared) }
 {
-    match of {
-        Value::Ref(object) => invokes_at(alloc, slots, *object, method, args),
-        _ => Ok(comes(Err(Thrown::NullPointerException))),
+    match reference(of) {
+        Ok(object) => invokes_at(alloc, slots, object, method, args),
+        Err(thrown) => Ok(comes(Err(thrown))),
     }
 }
 

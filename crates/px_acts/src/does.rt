@@ -1,6 +1,5 @@
 //! What a word does.
 ghost use Rattle.std.specs.Prelude.{◌≡◌, IfOk, OnErr};
-ghost use Rattle.px_effects.specs.Act.{Firsts};
 ghost use Rattle.px_normal.specs.declared.code.Code.{Code as CodeData};
 ghost use Rattle.px_normal.specs.Words.{does_of};
 ghost use Rattle.px_acts.specs.Slots.{values_in};
@@ -41,7 +40,7 @@ fn returned(
     slots: &[Slot],
     value: &Option<Operand>,
 ) -> Result<Does, AllocError>
-    ensures { (code : CodeData) (firsts : Firsts) (shared : Shared) → IfOk result (λ d. Did firsts (does_of code (Word.Return value.now) (values_in slots.now)) shared d shared) }
+    ensures { (code : CodeData) (shared : Shared) → IfOk result (λ d. Did (firsts_of code) (does_of code (Word.Return value.now) (values_in slots.now)) shared d shared) }
 {
     match value {
         None => Ok(comes(Ok(Value::Null))),
