@@ -1,11 +1,11 @@
 -- Objects that are made.
-use Rattle.std.proofs.Common.{◌≡◌, ℕ, List, ◌∷◌, [], length, Result, sym, subst}
+use Rattle.std.proofs.Common.{◌≡◌, ℕ, List, length, Result, sym, subst}
 use Rattle.px_value.specs.declared.value.Value.{Value}
 use Rattle.px_value.specs.declared.value.Value.TheVariants.{Ref}
 use Rattle.px_value.specs.declared.object.Object.{Object}
 use Rattle.px_value.specs.declared.header.Header.{Header}
 use Rattle.px_value.specs.declared.header.Kind.{Kind}
-use Rattle.px_effects.specs.Act.{Firsts, Act, Acted, acted, Makes}
+use Rattle.px_effects.specs.Act.{Firsts, Act, acted, Makes}
 use Rattle.px_effects.specs.Cells.{comes}
 use Rattle.px_acts.specs.declared.stop.Stop.{Stop}
 use Rattle.px_acts.specs.Ends.{Ends}

@@ -1,10 +1,10 @@
 -- How a call meets what a word does.
-use Rattle.std.specs.Prelude.{◌≡◌, ℕ, List, [], None}
+use Rattle.std.specs.Prelude.{◌≡◌, ℕ, List, None}
 use Rattle.px_value.specs.declared.value.Value.{Value}
 use Rattle.px_value.specs.declared.object.Object.{Object}
 use Rattle.px_value.specs.declared.statement.TableOp.{TableOp}
 use Rattle.px_value.specs.Operators.{Applied}
-use Rattle.px_effects.specs.Act.{Act, Acted, acted, Landed, landed, Firsts, Place as Cell}
+use Rattle.px_effects.specs.Act.{Acted, acted, Landed, landed, Firsts, Place as Cell}
 use Rattle.px_effects.specs.Cells.{first_cells}
 use Rattle.px_effects.specs.Operations.{Acts, Operates}
 use Rattle.px_normal.specs.declared.code.Code.{Code}

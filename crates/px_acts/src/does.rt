@@ -31,15 +31,14 @@ pub enum Does {
     /// It asks the tables, and has done nothing yet.
     Operates(TableOp),
     /// It calls a method on `this` and the arguments.
-    Invokes { method: u16, values: Values },
+    Invokes {
+        method: u16,
+        values: Values,
+    },
 }
 
 // A return comes to its value, or to null.
-fn returned(
-    alloc: Global,
-    slots: &[Slot],
-    value: &Option<Operand>,
-) -> Result<Does, AllocError>
+fn returned(alloc: Global, slots: &[Slot], value: &Option<Operand>) -> Result<Does, AllocError>
     ensures { (code : CodeData) (shared : Shared) → IfOk result (λ d. Did (firsts_of code) (does_of code (Word.Return value.now) (values_in slots.now)) shared d shared) }
 {
     match value {

@@ -51,11 +51,7 @@ pub fn push_operands(
 }
 
 /// Copies of the values of operands.
-pub fn operands(
-    alloc: Global,
-    slots: &[Slot],
-    operands: &[Operand],
-) -> Result<Values, AllocError>
+pub fn operands(alloc: Global, slots: &[Slot], operands: &[Operand]) -> Result<Values, AllocError>
     ensures { IfOk result (λ vs. vs ≡ words.operands (values_in slots.now) operands.now) }
 {
     let mut values = Values::new(alloc);

@@ -1,4 +1,4 @@
-use Rattle.std.proofs.Common.{Option, Ok, subst}
+use Rattle.std.proofs.Common.{Option, subst}
 use Rattle.px_value.specs.declared.value.Value.TheVariants.{Null}
 use Rattle.px_value.specs.declared.statement.Statement.{Statement}
 use Rattle.px_effects.specs.Cells.{comes}

@@ -1,7 +1,10 @@
-use Rattle.std.proofs.Common.{refl}
-use Rattle.px_normal.specs.First.{fresh_of}
+use Rattle.std.proofs.Common.{List, IfOk, refl, subst}
+use Rattle.px_effects.specs.Operations.{operation}
+use Rattle.px_normal.specs.declared.word.Operand.{Operand}
+use Rattle.px_normal.specs.First.{fresh_of, statements_of}
+use Rattle.px_normal.specs.Words.{Works, invokes_on, operand, operands}
 use Rattle.px_acts.specs.Slots.{values_in}
-use Rattle.px_acts.specs.Did.{firsts_of}
+use Rattle.px_acts.specs.Did.{Did, firsts_of}
 use Rattle.px_acts.proofs.Landing.{by_word, by_act}
 use Rattle.px_acts.proofs.does.do_word.Goals as goal
 
@@ -39,13 +42,16 @@ pub returns-in-Text-clause-did : goal.returns-in-Text-clause-did
 returns-in-Text-clause-did c = by_act c.args.code.now (values_in c.args.slots.now) (record { heap = c.args.store.now.heap; prints = c.args.prints.now }) c.text_column.result c.args.word.now _ _ c.args.store.now.heap c.in-Text.is refl (c.text_column.ensures (fresh_of c.args.code.now))
 
 pub returns-in-Call-clause-did : goal.returns-in-Call-clause-did
-returns-in-Call-clause-did c = by_word c.args.code.now (values_in c.args.slots.now) (record { heap = c.args.store.now.heap; prints = c.args.prints.now }) c.invokes.result c.args.word.now _ (record { heap = c.args.store.now.heap; prints = c.args.prints.now }) c.in-Call.is (c.invokes.ensures (firsts_of c.args.code.now) (record { heap = c.args.store.now.heap; prints = c.args.prints.now }))
+returns-in-Call-clause-did c = by_word c.args.code.now (values_in c.args.slots.now) (record { heap = c.args.store.now.heap; prints = c.args.prints.now }) c.invokes.result c.args.word.now _ (record { heap = c.args.store.now.heap; prints = c.args.prints.now }) c.in-Call.is
+    (subst (λ (xs : List Operand). IfOk c.invokes.result (λ d. Did (firsts_of c.args.code.now) (invokes_on (operand (values_in c.args.slots.now) c.in-Call.of) c.in-Call.method (operands (values_in c.args.slots.now) xs)) (record { heap = c.args.store.now.heap; prints = c.args.prints.now }) d (record { heap = c.args.store.now.heap; prints = c.args.prints.now }))) c.as_slice.ensures (c.invokes.ensures (firsts_of c.args.code.now) (record { heap = c.args.store.now.heap; prints = c.args.prints.now })))
 
 pub returns-in-Query-clause-did : goal.returns-in-Query-clause-did
-returns-in-Query-clause-did c = by_word c.args.code.now (values_in c.args.slots.now) (record { heap = c.args.store.now.heap; prints = c.args.prints.now }) c.operates.result c.args.word.now _ (record { heap = c.args.store.now.heap; prints = c.args.prints.now }) c.in-Query.is (c.operates.ensures (firsts_of c.args.code.now) (record { heap = c.args.store.now.heap; prints = c.args.prints.now }))
+returns-in-Query-clause-did c = by_word c.args.code.now (values_in c.args.slots.now) (record { heap = c.args.store.now.heap; prints = c.args.prints.now }) c.operates.result c.args.word.now _ (record { heap = c.args.store.now.heap; prints = c.args.prints.now }) c.in-Query.is
+    (subst (λ (xs : List Operand). IfOk c.operates.result (λ d. Did (firsts_of c.args.code.now) (Works (operation c.in-Query.statement (statements_of c.args.code.now c.in-Query.statement) (operands (values_in c.args.slots.now) xs))) (record { heap = c.args.store.now.heap; prints = c.args.prints.now }) d (record { heap = c.args.store.now.heap; prints = c.args.prints.now }))) c.as_slice-in-Query.ensures (c.operates.ensures (firsts_of c.args.code.now) (record { heap = c.args.store.now.heap; prints = c.args.prints.now })))
 
 pub returns-in-Update-clause-did : goal.returns-in-Update-clause-did
-returns-in-Update-clause-did c = by_word c.args.code.now (values_in c.args.slots.now) (record { heap = c.args.store.now.heap; prints = c.args.prints.now }) c.operates-in-Update.result c.args.word.now _ (record { heap = c.args.store.now.heap; prints = c.args.prints.now }) c.in-Update.is (c.operates-in-Update.ensures (firsts_of c.args.code.now) (record { heap = c.args.store.now.heap; prints = c.args.prints.now }))
+returns-in-Update-clause-did c = by_word c.args.code.now (values_in c.args.slots.now) (record { heap = c.args.store.now.heap; prints = c.args.prints.now }) c.operates-in-Update.result c.args.word.now _ (record { heap = c.args.store.now.heap; prints = c.args.prints.now }) c.in-Update.is
+    (subst (λ (xs : List Operand). IfOk c.operates-in-Update.result (λ d. Did (firsts_of c.args.code.now) (Works (operation c.in-Update.statement (statements_of c.args.code.now c.in-Update.statement) (operands (values_in c.args.slots.now) xs))) (record { heap = c.args.store.now.heap; prints = c.args.prints.now }) d (record { heap = c.args.store.now.heap; prints = c.args.prints.now }))) c.as_slice-in-Update.ensures (c.operates-in-Update.ensures (firsts_of c.args.code.now) (record { heap = c.args.store.now.heap; prints = c.args.prints.now })))
 
 pub returns-in-Print-clause-did : goal.returns-in-Print-clause-did
 returns-in-Print-clause-did c = by_word c.args.code.now (values_in c.args.slots.now) (record { heap = c.args.store.now.heap; prints = c.args.prints.now }) c.print.result c.args.word.now _ (record { heap = c.args.store.now.heap; prints = c.print.new.prints }) c.in-Print.is (c.print.ensures.did (firsts_of c.args.code.now) c.args.store.now.heap)

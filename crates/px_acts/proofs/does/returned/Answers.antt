@@ -1,6 +1,6 @@
-use Rattle.std.proofs.Common.{Option, Ok, IfOk, sym, subst}
+use Rattle.std.proofs.Common.{Option, IfOk, sym, subst}
 use Rattle.px_value.specs.declared.value.Value.TheVariants.{Null}
-use Rattle.px_effects.specs.Cells.{Fresh, comes}
+use Rattle.px_effects.specs.Cells.{comes}
 use Rattle.px_normal.specs.declared.word.Operand.{Operand}
 use Rattle.px_normal.specs.declared.word.Word.TheVariants.{Return}
 use Rattle.px_normal.specs.Words.{does_of}

@@ -1,4 +1,4 @@
-use Rattle.std.proofs.Common.{◌≡◌, ℕ, List, length, replicate, Result, Ok, sym, ap, subst, ◌∙◌}
+use Rattle.std.proofs.Common.{◌≡◌, ℕ, List, length, Result, Ok, sym, ap, subst, ◌∙◌}
 use Rattle.std.proofs.lemmas.List.{length-replicate}
 use Rattle.px_value.specs.declared.value.Value.{Value}
 use Rattle.px_value.specs.declared.value.Value.TheVariants.{Ref}
@@ -16,4 +16,4 @@ returns-clause-acted c fresh =
     let count : array_size c.args.size.now ≡ Ok n = sym c.array_size.ensures ∙ c.in_ok-count.was in
     subst (λ (x : Result ℕ Thrown). Ends (acted (first_cells fresh) (or_throws x (λ m. Makes (array_header c.args.element c.args.site m) (λ object. comes (Ref object)))) c.args.store.now.heap) c.allocate.result c.allocate.new.store.heap) (sym count)
     (made (first_cells fresh) (kind.Array c.args.element) c.args.site n c.in_ok-cells.cells c.args.store.now.heap c.allocate.result c.allocate.new.store.heap
-        c.allocate.ensures.acted (ap (λ (vs : List Value). length vs) c.in_ok-cells.ensures ∙ length-replicate n (element_default c.args.element)) c.in_ok-cells.ensures)
+    c.allocate.ensures.acted (ap (λ (vs : List Value). length vs) c.in_ok-cells.ensures ∙ length-replicate n (element_default c.args.element)) c.in_ok-cells.ensures)
