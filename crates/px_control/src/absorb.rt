@@ -11,7 +11,7 @@ use crate::control::Control;
 use crate::fitting::{cells_fit, slots_fit};
 use crate::frame::Frame;
 use crate::heap_end::HeapEnd;
-use crate::message::{SlotAt, Transfer, Updates};
+use crate::message::{Transfer, Updates};
 use crate::news::add_news;
 use crate::taking::{blank_frames, take_frames, write_cells};
 use px_normal::Code;
@@ -101,4 +101,58 @@ fn take_fitting<E: HeapEnd>(
         return Err(AbsorbError::BadMessage);
     }
     Ok(())
+}
+
+impl Control {
+    /// Control comes, with frames, new objects and cells; the block that comes next.
+    pub fn absorb<E: HeapEnd>(
+        &mut self,
+        alloc: Global,
+        code: &Code,
+        end: &mut E,
+        transfer: Transfer,
+    ) -> Result<u32, AbsorbError>
+        ensures block { IfOk result (λ block. block ≡ transfer.block) }
+        ensures taken { OnOk result ((plan : Plan) → plan.code ≡ code.now → is_taken plan transfer self.old.frames (E.objects end.old) ≡ true) }
+        ensures bad { IfBad result ((plan : Plan) → plan.code ≡ code.now → is_taken plan transfer self.old.frames (E.objects end.old) ≡ false) }
+        ensures absorbed { OnOk result ((plan : Plan) → plan.code ≡ code.now → machine_absorbed plan transfer (machine (E.objects end.old) self.old) ≡ machine (E.objects end.new) self.new) }
+        ensures kept { OnErr result (self.new ≡ self.old) }
+        ensures objects_kept { OnErr result (E.objects end.new ≡ E.objects end.old) }
+        ensures closed { E.closed end.new ≡ E.closed end.old }
+    {
+        if transfer.base > self.frames.len() {
+            return Err(AbsorbError::BadMessage);
+        }
+        let news = blank_frames(alloc, code, transfer.frames.as_slice())?;
+        self.frames.reserve(news.len())?;
+        let count = end.heap().len();
+        let lower = &self.frames.as_slice()[..transfer.base];
+        if let Err(error) = take_fitting(alloc, code, lower, news.as_slice(), &transfer, end) {
+            end.cut(count);
+            return Err(error);
+        }
+        let Transfer {
+            block,
+            turns,
+            base,
+            frames: _,
+            slots,
+            updates,
+        } = transfer;
+        let Updates { headers: _, cells } = updates;
+        write_cells(end, cells);
+        take_frames(
+            &mut self.frames,
+            self.base.saturating_sub(1),
+            base,
+            news,
+            slots,
+        );
+        self.base = self.frames.len();
+        self.marks.clear();
+        self.named.clear();
+        self.known = end.heap().len();
+        self.turns = turns;
+        Ok(block)
+    }
 }

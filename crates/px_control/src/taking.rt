@@ -17,7 +17,8 @@ pub fn blank_frames(
     code: &Code,
     told: &[FrameTold],
 ) -> Result<Vec<Frame>, AllocError>
-    ensures { IfOk result (λ frames. (plan : Plan) → plan.code ≡ code.now → frames.items ≡ map (blank_frame plan) told.now) }
+    ensures blank { IfOk result (λ frames. (plan : Plan) → plan.code ≡ code.now → frames.items ≡ map (blank_frame plan) told.now) }
+    ensures settled { IfOk result (λ frames. all_settled frames.items ≡ frames.items) }
 {
     let mut frames = Vec::new(alloc);
     for frame in told {
