@@ -1,5 +1,5 @@
 -- Slots that were placed in settled frames are slots that were filled, and then settled.
-use Rattle.std.proofs.Common.{◌≡◌, ℕ, zero, suc, ◌+◌, ◌-◌, ◌≤◌, nat_le, Bool, true, false, ◌&&◌, Ok, Err, List, [], ◌∷◌, ◌++◌, map, take, drop, length, Option, Some, None, option_map, slice_get, slice_set, le-leb, refl, sym, ap, ◌∙◌, arith}
+use Rattle.std.proofs.Common.{◌≡◌, ℕ, ◌≤◌, Bool, true, ◌&&◌, Err, List, [], ◌∷◌, ◌++◌, map, take, drop, length, Option, Some, None, option_map, slice_get, slice_set, le-leb, refl, sym, ap, ◌∙◌}
 use Rattle.std.proofs.lemmas.List.{map-set, map-append, take-map, drop_all, append-nil}
 use Rattle.std.proofs.lemmas.Option.{slice_get-map}
 use Rattle.px_value.specs.declared.value.Value.{Value}
@@ -14,7 +14,6 @@ use Rattle.px_blocks.specs.Message.{FrameTold, SlotAt, Transfer, settled, settle
 use Rattle.px_control.specs.declared.absorb.AbsorbError.{AbsorbError}
 use Rattle.px_control.specs.declared.absorb.AbsorbError.TheVariants.{BadMessage, NoMemory}
 use Rattle.std.specs.List.{list_all}
-use Rattle.px_control.specs.Stack.{IsQuietBelow}
 use Rattle.px_control.specs.Refused.{IfBad, machine}
 use Rattle.px_control.specs.Taken.{placed_in, with_placed, with_news, updates_fit, slot_fits, is_taken}
 

@@ -1,4 +1,4 @@
-use Rattle.std.proofs.Common.{◌≡◌, ◌++◌, drop}
+use Rattle.std.proofs.Common.{◌≡◌, drop}
 use Rattle.std.specs.List.{list_all}
 use Rattle.px_control.specs.Taken.{cell_fits}
 use Rattle.px_control.proofs.fitting.cells_fit.Given as goal

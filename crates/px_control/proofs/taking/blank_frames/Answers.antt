@@ -1,4 +1,4 @@
-use Rattle.std.proofs.Common.{◌≡◌, refl}
+use Rattle.std.proofs.Common.{refl}
 use Rattle.px_control.proofs.Absorbing.{bare, settled_blanks}
 use Rattle.px_control.proofs.taking.blank_frames.Goals as goal
 

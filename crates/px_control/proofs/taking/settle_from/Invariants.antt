@@ -1,4 +1,4 @@
-use Rattle.std.proofs.Common.{◌≡◌, length, vec_len, vec_capacity}
+use Rattle.std.proofs.Common.{◌≡◌, vec_len, vec_capacity}
 use Rattle.px_blocks.specs.Message.{settled_frame}
 use Rattle.px_control.proofs.InPlace.{so_far}
 use Rattle.px_control.proofs.taking.settle_from.Given as goal
