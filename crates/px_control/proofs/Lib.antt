@@ -10,3 +10,4 @@ pub mod Ordering
 pub mod Carrying
 pub mod Written
 pub mod Counting
+pub mod Absorbing

@@ -3,3 +3,5 @@ pub mod Marks
 pub mod Names
 pub mod Stack
 pub mod Calls
+pub mod Taken
+pub mod Refused

@@ -9,8 +9,8 @@ use px_value::Value;
 use sqlite_items::at;
 use std::alloc::{AllocError, Global};
 
-// What a slot of a type holds before it is written (JLS 4.12.5).
-fn default_value(ty: Ty) -> Value
+/// What a slot of a type holds before it is written (JLS 4.12.5).
+pub fn default_value(ty: Ty) -> Value
     ensures { result ≡ default_of ty }
 {
     match ty {
