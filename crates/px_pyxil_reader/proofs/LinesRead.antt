@@ -202,8 +202,8 @@ unfolding method_of
 method_again n s m k f =
     then_again u32_reads (λ n. side_at n.1 >>= λ s. member_at s.1 >>= λ m. u32_at m.1 >>= λ k. end_at k.1 >>= λ _. one_line (head_line n.0 s.0 m.0 k.0)) n (32 ∷ (side_name s ++ (32 ∷ (member_text m ++ (32 ∷ (decimal k ++ [])))))) f.0 refl
     ∙ then_again side_reads (λ s. member_at s.1 >>= λ m. u32_at m.1 >>= λ k. end_at k.1 >>= λ _. one_line (head_line n s.0 m.0 k.0)) s (32 ∷ (member_text m ++ (32 ∷ (decimal k ++ [])))) tt refl
-    ∙ then_again member_reads (λ m. u32_at m.1 >>= λ k. end_at k.1 >>= λ _. one_line (head_line n s m.0 k.0)) m (32 ∷ (decimal k ++ [])) f.1.0 refl
-    ∙ then_again u32_reads (λ k. end_at k.1 >>= λ _. one_line (head_line n s m k.0)) k [] f.1.1 tt
+    ∙ then_again member_reads (λ m. u32_at m.1 >>= λ k. end_at k.1 >>= λ _. one_line (head_line n s m.0 k.0)) m (32 ∷ (decimal k ++ [])) f.1 refl
+    ∙ then_again u32_reads (λ k. end_at k.1 >>= λ _. one_line (head_line n s m k.0)) k [] f.2 tt
 
 send_again : (k : SendKind) (a : Operand) → OperandFits a → send_of k (32 ∷ (operand_text a ++ [])) ≡ Some (send_line k a)
 unfolding send_of
@@ -245,7 +245,7 @@ no_branch at verb.Return bytes = refl
 
 -- a line that begins with a node
 node_again : (at : At) (word rest : List ℕ) (y : Line) → IsU32 at.node → HasNo 32 word → IsBreak rest → placed_by at word rest ≡ Some y → line_of (decimal at.node ++ (32 ∷ (side_name at.side ++ (32 ∷ (word ++ rest))))) ≡ Some y
-unfolding line_of, node_of
+unfolding line_of node_of
 node_again at word rest y n h s e =
     let digits = decimal_bytes at.node (omega (arith, n)) in
     let behind : List ℕ = 32 ∷ (side_name at.side ++ (32 ∷ (word ++ rest))) in
@@ -257,7 +257,7 @@ node_again at word rest y n h s e =
     ∙ e
 
 pub line_again : (y : Line) → LineFits y → line_of (line_words y) ≡ Some y
-unfolding line_of, opening_of
+unfolding line_of opening_of
 line_again (line.Field f) h = field_again f.field f.side h
 line_again (line.Site s) h = site_again s.number s.side h
 line_again (line.Method m) h = method_again m.at.node m.at.side m.method m.slots h
@@ -270,10 +270,10 @@ line_again (line.Send s) h = by s.kind
     by kind.App = send_again kind.App s.object h
     by kind.Db = send_again kind.Db s.object h
     by kind.Native = send_again kind.Native s.object h
-line_again (line.If at test) h = node_again at (codes "if") (32 ∷ (operand_text test ++ [])) (line.If at test) h.0 (refl, refl, tt) refl (if_again at test h.1)
+line_again (line.If at test) h = node_again at (codes "if") (32 ∷ (operand_text test ++ [])) (line.If at test) h.0 (refl, (refl, tt)) refl (if_again at test h.1)
 line_again line.Else h = refl
 line_again line.Loop h = refl
-line_again (line.Test at test) h = node_again at (codes "test") (32 ∷ (operand_text test ++ [])) (line.Test at test) h.0 (refl, refl, refl, refl, tt) refl (test_again at test h.1)
+line_again (line.Test at test) h = node_again at (codes "test") (32 ∷ (operand_text test ++ [])) (line.Test at test) h.0 (refl, (refl, (refl, (refl, tt)))) refl (test_again at test h.1)
 line_again line.End h = refl
 
 -- ---- together

@@ -1,6 +1,7 @@
 -- Names.
 use Rattle.std.proofs.Common.{◌≡◌, ℕ, ◌==◌, Bool, true, false, not, cond, if◌then◌else◌, ◌&&◌, List, [], ◌∷◌, ◌++◌, Option, Some, None, inl, inr, refl, sym, ap, subst, ◌∙◌, codes, arith, append_assoc}
 use Rattle.std.specs.Prelude.{⊤}
+use Rattle.std.proofs.lemmas.Bool.{eqb-true}
 use Rattle.std.specs.Option.{option_map}
 use Rattle.std.specs.List.{AllByRecursion, list_all}
 use Rattle.std.specs.Str.{bytes_eq}
@@ -27,7 +28,7 @@ both_true false b h = absurd cc
 -- ---- the bytes of names
 
 other_byte : (byte b : ℕ) (t : Bool) → is_word_byte byte ≡ false → is_word_byte b ≡ true → (b == byte) ≡ t → t ≡ false
-other_byte byte b true h k e = let s : b ≡ byte = grind (arith, e) in absurd (let w : is_word_byte byte ≡ true = subst (λ x. is_word_byte x ≡ true) s k in cc)
+other_byte byte b true h k e = let s : b ≡ byte = eqb-true b byte e in absurd (let w : is_word_byte byte ≡ true = subst (λ x. is_word_byte x ≡ true) s k in cc)
 other_byte byte b false h k e = refl
 
 rest_has_no : (byte : ℕ) (bs : List ℕ) → is_word_byte byte ≡ false → list_all is_word_byte bs ≡ true → HasNo byte bs
@@ -80,7 +81,7 @@ side_again Db = refl
 
 side_taken : (word : List ℕ) (s : Side) → side_of word ≡ Some s → side_name s ≡ word
 unfolding side_of
-side_taken word s e = found_taken side_name sides word s (refl, refl, tt) e
+side_taken word s e = found_taken side_name sides word s (refl, (refl, tt)) e
 
 pub side_word : ReadsWord (λ _. ⊤) side_name side_of
 side_word = record { again = λ s _. side_again s; taken = λ word s e. (tt, side_taken word s e); }
@@ -118,7 +119,7 @@ op_again op.Length = refl
 
 op_taken : (word : List ℕ) (o : Op) → op_of word ≡ Some o → op_name o ≡ word
 unfolding op_of
-op_taken word o e = found_taken op_name ops word o (refl, refl, refl, refl, refl, refl, refl, refl, refl, refl, refl, refl, refl, refl, refl, refl, refl, refl, refl, refl, refl, refl, refl, refl, refl, tt) e
+op_taken word o e = found_taken op_name ops word o (refl, (refl, (refl, (refl, (refl, (refl, (refl, (refl, (refl, (refl, (refl, (refl, (refl, (refl, (refl, (refl, (refl, (refl, (refl, (refl, (refl, (refl, (refl, (refl, (refl, tt))))))))))))))))))))))))) e
 
 pub op_word : ReadsWord (λ _. ⊤) op_name op_of
 op_word = record { again = λ o _. op_again o; taken = λ word o e. (tt, op_taken word o e); }
@@ -182,15 +183,15 @@ not_true true h = absurd cc
 not_true false h = refl
 
 int_is_none : is_identifier (codes "int") ≡ false
-unfolding is_identifier, is_reserved
+unfolding is_identifier is_reserved
 int_is_none = refl
 
 long_is_none : is_identifier (codes "long") ≡ false
-unfolding is_identifier, is_reserved
+unfolding is_identifier is_reserved
 long_is_none = refl
 
 boolean_is_none : is_identifier (codes "boolean") ≡ false
-unfolding is_identifier, is_reserved
+unfolding is_identifier is_reserved
 boolean_is_none = refl
 
 abbrev objects : Option (List ℕ) → Option Element
@@ -236,8 +237,8 @@ pub element_word : ReadsWord ElementFits element_name element_of
 element_word = record { again = element_again; taken = element_taken; }
 
 pub element_has_no : (e : Element) → ElementFits e → HasNo 32 (element_name e)
-element_has_no element.Int h = (refl, refl, refl, tt)
-element_has_no element.Long h = (refl, refl, refl, refl, tt)
-element_has_no element.Bool h = (refl, refl, refl, refl, refl, refl, refl, tt)
-element_has_no element.Text h = (refl, refl, refl, refl, refl, refl, tt)
+element_has_no element.Int h = (refl, (refl, (refl, tt)))
+element_has_no element.Long h = (refl, (refl, (refl, (refl, tt))))
+element_has_no element.Bool h = (refl, (refl, (refl, (refl, (refl, (refl, (refl, tt)))))))
+element_has_no element.Text h = (refl, (refl, (refl, (refl, (refl, (refl, tt))))))
 element_has_no (element.Object class) h = class_has_no 32 class refl h

@@ -66,7 +66,7 @@ some_number n = Some n
 pub written_decimal : (n : ℕ) → n < 2 ^ 64 → written (decimal n) ≡ Some n
 written_decimal n h = let p = decimal_is_IsNumeral n h in written_by (decimal n) p.0.0 p.0.1 ∙ ap some_number p.1
 
-up_to_again : (most n : ℕ) → n ≤ most → up_to most (Some n) ≡ Some n
+pub up_to_again : (most n : ℕ) → n ≤ most → up_to most (Some n) ≡ Some n
 up_to_again most n h = let e : nat_le n most ≡ true = grind (arith, h) in ap (λ b. cond b (some_number n) None) e
 
 u64_again : (n : ℕ) → n < 2 ^ 64 → u64_of (decimal n) ≡ Some n
@@ -77,32 +77,30 @@ u64_again n h = ap (up_to (2 ^ 64 - 1)) (written_decimal n h) ∙ up_to_again (2
 abbrev checked : ℕ → List ℕ → ℕ → Option ℕ
 checked limit word n = if bytes_eq (decimal (n % limit)) word then Some (n % limit) else None
 
-number_again : (limit n : ℕ) → limit ≤ 2 ^ 64 → n < limit → number_of limit (decimal n) ≡ Some n
-number_again limit n l h =
-    let same : n % limit ≡ n = omega (arith, h) in
-    ap (λ o. o >>= checked limit (decimal n)) (u64_again n (omega (arith, l, h)))
+number_again : (limit n : ℕ) → n < 2 ^ 64 → n % limit ≡ n → number_of limit (decimal n) ≡ Some n
+number_again limit n h same =
+    ap (λ o. o >>= checked limit (decimal n)) (u64_again n h)
     ∙ ap (λ m. if bytes_eq (decimal m) (decimal n) then some_number m else None) same
     ∙ ap (λ b. if b then some_number n else None) (bytes_again (decimal n))
 
-number_taken : (limit : ℕ) (word : List ℕ) (n : ℕ) → 0 < limit → number_of limit word ≡ Some n → (n < limit) × (decimal n ≡ word)
+number_taken : (limit : ℕ) (word : List ℕ) (n : ℕ) → ((m : ℕ) → m % limit < limit) → number_of limit word ≡ Some n → (n < limit) × (decimal n ≡ word)
 number_taken limit word n l e =
     let m = bind_some (u64_of word) (checked limit word) n e in
     let g = guard_some (bytes_eq (decimal (m.0 % limit)) word) (m.0 % limit) n m.2 in
-    let small : m.0 % limit < limit = omega (arith, l) in
-    (subst (λ x. x < limit) g.1 small, ap decimal (sym g.1) ∙ bytes_same (decimal (m.0 % limit)) word g.0)
+    (subst (λ x. x < limit) g.1 (l m.0), ap decimal (sym g.1) ∙ bytes_same (decimal (m.0 % limit)) word g.0)
 
 pub u16_word : ReadsWord IsU16 decimal u16_of
 unfolding u16_of
 u16_word = record {
-  again = λ n h. number_again 65536 n (omega arith) h;
-  taken = λ word n e. number_taken 65536 word n (omega arith) e;
+  again = λ n h. number_again 65536 n (omega (arith, h)) (omega (arith, h));
+  taken = λ word n e. number_taken 65536 word n (λ m. omega arith) e;
 }
 
 pub u32_word : ReadsWord IsU32 decimal u32_of
 unfolding u32_of
 u32_word = record {
-  again = λ n h. number_again 4294967296 n (omega arith) h;
-  taken = λ word n e. number_taken 4294967296 word n (omega arith) e;
+  again = λ n h. number_again 4294967296 n (omega (arith, h)) (omega (arith, h));
+  taken = λ word n e. number_taken 4294967296 word n (λ m. omega arith) e;
 }
 
 marked_by : (mark byte : ℕ) (digits : List ℕ) (read : List ℕ → Option ℕ) (n : ℕ) (b : Bool) → (byte == mark) ≡ b → (if b then read digits else None) ≡ Some n → (byte ≡ mark) × (read digits ≡ Some n)
@@ -130,7 +128,7 @@ some_slot n = Some n
 abbrev some_some : Option ℕ → Option (Option ℕ)
 some_some o = Some o
 
-mapped_some : {A B : Type 0} (f : A → B) (o : Option A) (y : B) → option_map f o ≡ Some y → (x : A) × (o ≡ Some x) × (f x ≡ y)
+pub mapped_some : {A B : Type 0} (f : A → B) (o : Option A) (y : B) → option_map f o ≡ Some y → (x : A) × (o ≡ Some x) × (f x ≡ y)
 mapped_some f (Some x) y e = (x, refl, cc)
 mapped_some f None y e = absurd cc
 

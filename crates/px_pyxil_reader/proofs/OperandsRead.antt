@@ -1,5 +1,5 @@
 -- Operands.
-use Rattle.std.proofs.Common.{◌≡◌, ℕ, zero, suc, ◌+◌, ◌<◌, ◌≤◌, ◌^◌, ◌==◌, Bool, true, false, cond, if◌then◌else◌, ◌&&◌, List, [], ◌∷◌, ◌++◌, length, Option, Some, None, ⊥, ◌⊎◌, inl, inr, refl, sym, ap, subst, ◌∙◌, codes, arith, ℤ, pos, negsuc, decimal, append-nil, length-append}
+use Rattle.std.proofs.Common.{◌≡◌, ℕ, zero, suc, ◌+◌, ◌<◌, ◌≤◌, ◌^◌, ◌==◌, Bool, true, false, cond, if◌then◌else◌, ◌&&◌, List, [], ◌∷◌, ◌++◌, length, Option, Some, None, ◌⊎◌, inl, inr, refl, sym, ap, subst, ◌∙◌, codes, arith, ℤ, pos, negsuc, decimal, append-nil, length-append}
 use Rattle.std.specs.Prelude.{⊤}
 use Rattle.std.specs.Option.{option_map}
 use Rattle.std.specs.List.{AllByRecursion}
@@ -173,10 +173,10 @@ pub plain_has_no : (byte : ℕ) → byte < 35 → (a : Operand) → PlainOperand
 plain_has_no byte l (Slot slot) f = (let e : (37 == byte) ≡ false = grind (arith, l) in e, number_has_no byte (decimal slot) (inl (omega (arith, l))) (decimal_bytes slot (omega (arith, f))))
 plain_has_no byte l (Literal (Int n)) f = number_has_no byte (signed_decimal n) (inl (omega (arith, l))) (signed_bytes n (int_fits n f))
 plain_has_no byte l (Literal (Long n)) f = has_no_both byte (signed_decimal n) (76 ∷ []) (number_has_no byte (signed_decimal n) (inl (omega (arith, l))) (signed_bytes n (long_fits n f))) (let e : (76 == byte) ≡ false = grind (arith, l) in e, tt)
-plain_has_no byte l (Literal (Truth true)) f = high_has_no byte (codes "true") l (omega arith, omega arith, omega arith, omega arith, tt)
-plain_has_no byte l (Literal (Truth false)) f = high_has_no byte (codes "false") l (omega arith, omega arith, omega arith, omega arith, omega arith, tt)
+plain_has_no byte l (Literal (Truth true)) f = high_has_no byte (codes "true") l (omega arith, (omega arith, (omega arith, (omega arith, tt))))
+plain_has_no byte l (Literal (Truth false)) f = high_has_no byte (codes "false") l (omega arith, (omega arith, (omega arith, (omega arith, (omega arith, tt)))))
 plain_has_no byte l (Literal (Text text)) f = absurd f
-plain_has_no byte l (Literal Null) f = high_has_no byte (codes "null") l (omega arith, omega arith, omega arith, omega arith, tt)
+plain_has_no byte l (Literal Null) f = high_has_no byte (codes "null") l (omega arith, (omega arith, (omega arith, (omega arith, tt))))
 plain_has_no byte l (Literal (Ref place)) f = (let e : (35 == byte) ≡ false = grind (arith, l) in e, number_has_no byte (decimal place) (inl (omega (arith, l))) (decimal_bytes place (omega (arith, f))))
 
 plain_reads : Reads PlainOperandFits operand_text (of_word plain_operand_of)
@@ -193,7 +193,7 @@ plain_fits (Literal (Text text)) f = absurd f
 plain_fits (Literal Null) f = tt
 plain_fits (Literal (Ref place)) f = f
 
--- what has no quote is read as a word
+-- what has no quote is read xs a word
 unquoted : (text rest : List ℕ) → HasNo 34 text → IsBreak rest → operand_at (32 ∷ (text ++ rest)) ≡ of_word plain_operand_of (32 ∷ (text ++ rest))
 unfolding operand_at
 unquoted [] [] h s = refl
@@ -270,46 +270,46 @@ if_taken P (b ∷ bytes) o e go =
     let m = mapped_some some_operand (operand_of (b ∷ bytes)) o e in
     last_taken P (b ∷ bytes) m.0 m.1 (λ f. subst (λ z. (OperandIfFits z → P (spaced (if_words z))) → P (32 ∷ (operand_text m.0 ++ []))) m.2 (λ g. g f) go)
 
-breaks : (ws : List (List ℕ)) → IsBreak (spaced ws)
+pub breaks : (ws : List (List ℕ)) → IsBreak (spaced ws)
 breaks [] = tt
 breaks (w ∷ ws) = refl
 
 abbrev next_of : ℕ → Operand × List ℕ → Option (List Operand)
 next_of most operand = option_map (λ more. operand.0 ∷ more) (operands_in most operand.1)
 
-all_again : (most : ℕ) (as : List Operand) → length as ≤ most → OperandsFit as → operands_in most (spaced (operands as)) ≡ Some as
+all_again : (most : ℕ) (xs : List Operand) → length xs ≤ most → OperandsFit xs → operands_in most (spaced (operands xs)) ≡ Some xs
 all_again zero [] l f = refl
 all_again (suc most) [] l f = refl
-all_again zero (a ∷ as) l f = absurd (omega (arith, l))
-all_again (suc most) (a ∷ as) l f =
-    then_again operand_reads (next_of most) a (spaced (operands as)) f.0 (breaks (operands as))
-    ∙ ap (λ o. option_map (λ more. a ∷ more) o) (all_again most as (omega (arith, l)) f.1)
+all_again zero (a ∷ xs) l f = absurd (omega (arith, l))
+all_again (suc most) (a ∷ xs) l f =
+    then_again operand_reads (next_of most) a (spaced (operands xs)) f.0 (breaks (operands xs))
+    ∙ ap (λ o. option_map (λ more. a ∷ more) o) (all_again most xs (omega (arith, l)) f.1)
 
-words_long : (as : List Operand) → length as ≤ length (spaced (operands as))
+words_long : (xs : List Operand) → length xs ≤ length (spaced (operands xs))
 words_long [] = omega arith
-words_long (a ∷ as) = let h = words_long as in let e = length-append (operand_text a) (spaced (operands as)) in omega (arith, h, e)
+words_long (a ∷ xs) = let h = words_long xs in let e = length-append (operand_text a) (spaced (operands xs)) in omega (arith, h, e)
 
-pub operands_again : (as : List Operand) → OperandsFit as → operands_to_end (spaced (operands as)) ≡ Some as
+pub operands_again : (xs : List Operand) → OperandsFit xs → operands_to_end (spaced (operands xs)) ≡ Some xs
 unfolding operands_to_end
-operands_again as f = all_again (length (spaced (operands as))) as (words_long as) f
+operands_again xs f = all_again (length (spaced (operands xs))) xs (words_long xs) f
 
 abbrev AreOperands : List ℕ → List Operand → Type 0
-AreOperands bytes as = OperandsFit as × (bytes ≡ spaced (operands as))
+AreOperands bytes xs = OperandsFit xs × (bytes ≡ spaced (operands xs))
 
 abbrev no_operands : List Operand
 no_operands = []
 
-all_taken : (most : ℕ) (bytes : List ℕ) (as : List Operand) → operands_in most bytes ≡ Some as → AreOperands bytes as
-all_taken zero [] as e = let f : no_operands ≡ as = some_is no_operands as e in subst (AreOperands []) f (tt, refl)
-all_taken zero (b ∷ bytes) as e = absurd cc
-all_taken (suc most) [] as e = let f : no_operands ≡ as = some_is no_operands as e in subst (AreOperands []) f (tt, refl)
-all_taken (suc most) (b ∷ bytes) as e =
-    then_taken operand_reads (λ bs. AreOperands bs as) (next_of most) (b ∷ bytes) as e
+all_taken : (most : ℕ) (bytes : List ℕ) (xs : List Operand) → operands_in most bytes ≡ Some xs → AreOperands bytes xs
+all_taken zero [] xs e = let f : no_operands ≡ xs = some_is no_operands xs e in subst (AreOperands []) f (tt, refl)
+all_taken zero (b ∷ bytes) xs e = absurd cc
+all_taken (suc most) [] xs e = let f : no_operands ≡ xs = some_is no_operands xs e in subst (AreOperands []) f (tt, refl)
+all_taken (suc most) (b ∷ bytes) xs e =
+    then_taken operand_reads (λ bs. AreOperands bs xs) (next_of most) (b ∷ bytes) xs e
     (λ a rest f h.
-        let m = mapped_some (λ more. a ∷ more) (operands_in most rest) as h in
+        let m = mapped_some (λ more. a ∷ more) (operands_in most rest) xs h in
         let p = all_taken most rest m.0 m.1 in
         subst (AreOperands (32 ∷ (operand_text a ++ rest))) m.2 ((f, p.0), ap (λ bs. 32 ∷ (operand_text a ++ bs)) p.1))
 
-pub operands_taken : (P : List ℕ → Type 0) (bytes : List ℕ) (as : List Operand) → operands_to_end bytes ≡ Some as → (OperandsFit as → P (spaced (operands as))) → P bytes
+pub operands_taken : (P : List ℕ → Type 0) (bytes : List ℕ) (xs : List Operand) → operands_to_end bytes ≡ Some xs → (OperandsFit xs → P (spaced (operands xs))) → P bytes
 unfolding operands_to_end
-operands_taken P bytes as e go = let p = all_taken (length bytes) bytes as e in subst P (sym p.1) (go p.0)
+operands_taken P bytes xs e go = let p = all_taken (length bytes) bytes xs e in subst P (sym p.1) (go p.0)

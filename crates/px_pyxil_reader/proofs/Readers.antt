@@ -1,5 +1,5 @@
 -- Readers and spellings that belong together.
-use Rattle.std.proofs.Common.{◌≡◌, ℕ, ◌==◌, Bool, true, false, cond, if◌then◌else◌, List, [], ◌∷◌, ◌++◌, Option, Some, None, ◌⊎◌, inl, inr, refl, sym, ap, subst, ◌∙◌, append-nil}
+use Rattle.std.proofs.Common.{◌≡◌, ℕ, ◌==◌, Bool, true, false, cond, if◌then◌else◌, List, [], ◌∷◌, ◌++◌, Option, Some, None, ◌⊎◌, inl, inr, refl, sym, ap, subst, ◌∙◌, arith}
 use Rattle.std.specs.Prelude.{⊤}
 use Rattle.std.specs.List.{AllByRecursion}
 use Rattle.std.specs.Str.{bytes_eq}
@@ -64,7 +64,11 @@ cut_all byte (x ∷ xs) h = rw h.0 (ap (onward x) (cut_all byte xs h.1))
 abbrev parts_of : List ℕ × List ℕ → List ℕ
 parts_of p = p.0 ++ p.1
 
-parts_by : (b : Bool) (x : ℕ) (xs : List ℕ) (p : List ℕ × List ℕ) → parts_of p ≡ xs → parts_of (if b then ([], x ∷ xs) else (x ∷ p.0, p.1)) ≡ x ∷ xs
+-- the cut, by whether the first byte is the one
+abbrev cut_by : Bool → ℕ → List ℕ → List ℕ × List ℕ → List ℕ × List ℕ
+cut_by b x xs p = if b then ([], x ∷ xs) else (x ∷ p.0, p.1)
+
+parts_by : (b : Bool) (x : ℕ) (xs : List ℕ) (p : List ℕ × List ℕ) → parts_of p ≡ xs → parts_of (cut_by b x xs p) ≡ x ∷ xs
 parts_by true x xs p e = refl
 parts_by false x xs p e = ap (λ ys. x ∷ ys) e
 
@@ -73,7 +77,7 @@ pub cut_parts : (byte : ℕ) (xs : List ℕ) → (cut_at byte xs).0 ++ (cut_at b
 cut_parts byte [] = refl
 cut_parts byte (x ∷ xs) = parts_by (x == byte) x xs (cut_at byte xs) (cut_parts byte xs)
 
-stops_by : (byte x : ℕ) (xs : List ℕ) (p : List ℕ × List ℕ) (b : Bool) → (x == byte) ≡ b → Starts byte p.1 → Starts byte (if b then ([], x ∷ xs) else (x ∷ p.0, p.1)).1
+stops_by : (byte x : ℕ) (xs : List ℕ) (p : List ℕ × List ℕ) (b : Bool) → (x == byte) ≡ b → Starts byte p.1 → Starts byte (cut_by b x xs p).1
 stops_by byte x xs p true e s = e
 stops_by byte x xs p false e s = s
 
@@ -82,7 +86,7 @@ pub cut_stops : (byte : ℕ) (xs : List ℕ) → Starts byte (cut_at byte xs).1
 cut_stops byte [] = tt
 cut_stops byte (x ∷ xs) = stops_by byte x xs (cut_at byte xs) (x == byte) refl (cut_stops byte xs)
 
-has_no_by : (byte x : ℕ) (xs : List ℕ) (p : List ℕ × List ℕ) (b : Bool) → (x == byte) ≡ b → HasNo byte p.0 → HasNo byte (if b then ([], x ∷ xs) else (x ∷ p.0, p.1)).0
+has_no_by : (byte x : ℕ) (xs : List ℕ) (p : List ℕ × List ℕ) (b : Bool) → (x == byte) ≡ b → HasNo byte p.0 → HasNo byte (cut_by b x xs p).0
 has_no_by byte x xs p true e s = tt
 has_no_by byte x xs p false e s = (e, s)
 

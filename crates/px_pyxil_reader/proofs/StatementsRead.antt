@@ -36,35 +36,35 @@ or_none_plain None h = (refl, tt)
 or_none_plain (Some n) h = slot_plain n h
 
 side_plain : (s : Side) → HasNo 32 (side_name s)
-side_plain App = (refl, refl, refl, tt)
-side_plain Db = (refl, refl, tt)
+side_plain App = (refl, (refl, (refl, tt)))
+side_plain Db = (refl, (refl, tt))
 
 op_plain : (o : Op) → HasNo 32 (op_name o)
-op_plain op.Add = (refl, refl, refl, tt)
-op_plain op.Sub = (refl, refl, refl, tt)
-op_plain op.Mul = (refl, refl, refl, tt)
-op_plain op.Div = (refl, refl, refl, tt)
-op_plain op.Rem = (refl, refl, refl, tt)
-op_plain op.And = (refl, refl, refl, tt)
-op_plain op.Or = (refl, refl, tt)
-op_plain op.Xor = (refl, refl, refl, tt)
-op_plain op.Shl = (refl, refl, refl, tt)
-op_plain op.Shr = (refl, refl, refl, tt)
-op_plain op.Ushr = (refl, refl, refl, refl, tt)
-op_plain op.Lt = (refl, refl, tt)
-op_plain op.Le = (refl, refl, tt)
-op_plain op.Gt = (refl, refl, tt)
-op_plain op.Ge = (refl, refl, tt)
-op_plain op.Eq = (refl, refl, tt)
-op_plain op.Ne = (refl, refl, tt)
-op_plain op.Neg = (refl, refl, refl, tt)
-op_plain op.Inv = (refl, refl, refl, tt)
-op_plain op.Not = (refl, refl, refl, tt)
-op_plain op.Widen = (refl, refl, refl, refl, refl, tt)
-op_plain op.Narrow = (refl, refl, refl, refl, refl, refl, tt)
-op_plain op.Concat = (refl, refl, refl, refl, refl, refl, tt)
-op_plain op.Equals = (refl, refl, refl, refl, refl, refl, tt)
-op_plain op.Length = (refl, refl, refl, refl, refl, refl, tt)
+op_plain op.Add = (refl, (refl, (refl, tt)))
+op_plain op.Sub = (refl, (refl, (refl, tt)))
+op_plain op.Mul = (refl, (refl, (refl, tt)))
+op_plain op.Div = (refl, (refl, (refl, tt)))
+op_plain op.Rem = (refl, (refl, (refl, tt)))
+op_plain op.And = (refl, (refl, (refl, tt)))
+op_plain op.Or = (refl, (refl, tt))
+op_plain op.Xor = (refl, (refl, (refl, tt)))
+op_plain op.Shl = (refl, (refl, (refl, tt)))
+op_plain op.Shr = (refl, (refl, (refl, tt)))
+op_plain op.Ushr = (refl, (refl, (refl, (refl, tt))))
+op_plain op.Lt = (refl, (refl, tt))
+op_plain op.Le = (refl, (refl, tt))
+op_plain op.Gt = (refl, (refl, tt))
+op_plain op.Ge = (refl, (refl, tt))
+op_plain op.Eq = (refl, (refl, tt))
+op_plain op.Ne = (refl, (refl, tt))
+op_plain op.Neg = (refl, (refl, (refl, tt)))
+op_plain op.Inv = (refl, (refl, (refl, tt)))
+op_plain op.Not = (refl, (refl, (refl, tt)))
+op_plain op.Widen = (refl, (refl, (refl, (refl, (refl, tt)))))
+op_plain op.Narrow = (refl, (refl, (refl, (refl, (refl, (refl, tt))))))
+op_plain op.Concat = (refl, (refl, (refl, (refl, (refl, (refl, tt))))))
+op_plain op.Equals = (refl, (refl, (refl, (refl, (refl, (refl, tt))))))
+op_plain op.Length = (refl, (refl, (refl, (refl, (refl, (refl, tt))))))
 
 pub u16_reads : Reads IsU16 decimal u16_at
 unfolding u16_at
@@ -128,7 +128,7 @@ verb_name verb.Return = codes "return"
 
 pub verb_taken : (word : List ℕ) (v : Verb) → verb_of word ≡ Some v → verb_name v ≡ word
 unfolding verb_of
-verb_taken word v e = found_taken verb_name verbs word v (refl, refl, refl, refl, refl, refl, refl, refl, refl, refl, refl, refl, refl, refl, refl, refl, refl, tt) e
+verb_taken word v e = found_taken verb_name verbs word v (refl, (refl, (refl, (refl, (refl, (refl, (refl, (refl, (refl, (refl, (refl, (refl, (refl, (refl, (refl, (refl, (refl, tt))))))))))))))))) e
 
 pub verb_again : (v : Verb) → verb_of (verb_name v) ≡ Some v
 unfolding verb_of
@@ -178,16 +178,16 @@ op_statement_of-taken bytes y e =
     then_taken op_reads (λ bs. Behind verb.Op y bs) (λ p0. slot_at p0.1 >>= λ p1. operand_at p1.1 >>= λ p2. operand_if p2.1 >>= λ b. one_word (w.Op p0.0 p1.0 p2.0 b)) bytes y e (λ o r0 f0 h0.
     then_taken slot_reads (λ bs. Behind verb.Op y (32 ∷ (op_name o ++ bs))) (λ p1. operand_at p1.1 >>= λ p2. operand_if p2.1 >>= λ b. one_word (w.Op o p1.0 p2.0 b)) r0 y h0 (λ to r1 f1 h1.
     then_taken operand_reads (λ bs. Behind verb.Op y (32 ∷ (op_name o ++ (32 ∷ (slot_text to ++ bs))))) (λ p2. operand_if p2.1 >>= λ b. one_word (w.Op o to p2.0 b)) r1 y h1 (λ a r2 f2 h2.
-    let m = bind_some (operand_if r2) (λ b. one_word (w.Op o to a b)) y h2 in
-    subst (λ z. Behind verb.Op z (32 ∷ (op_name o ++ (32 ∷ (slot_text to ++ (32 ∷ (operand_text a ++ r2))))))) (some_is (w.Op o to a m.0) y m.2) (if_taken (λ bs. Behind verb.Op (w.Op o to a m.0) (32 ∷ (op_name o ++ (32 ∷ (slot_text to ++ (32 ∷ (operand_text a ++ bs))))))) r2 m.0 m.1 (λ f3. ((f1, f2, f3), refl))))))
+    let q = bind_some (operand_if r2) (λ b. one_word (w.Op o to a b)) y h2 in
+    subst (λ z. Behind verb.Op z (32 ∷ (op_name o ++ (32 ∷ (slot_text to ++ (32 ∷ (operand_text a ++ r2))))))) (some_is (w.Op o to a q.0) y q.2) (if_taken (λ bs. Behind verb.Op (w.Op o to a q.0) (32 ∷ (op_name o ++ (32 ∷ (slot_text to ++ (32 ∷ (operand_text a ++ bs))))))) r2 q.0 q.1 (λ f3. ((f1, f2, f3), refl))))))
 
 op_statement_of-again : (o : Op) (to : ℕ) (a : Operand) (b : Option Operand) → WordFits (w.Op o to a b) → op_statement_of (32 ∷ (op_name o ++ (32 ∷ (slot_text to ++ (32 ∷ (operand_text a ++ (spaced (if_words b)))))))) ≡ Some (w.Op o to a b)
 unfolding op_statement_of
 op_statement_of-again o to a b f =
     then_again op_reads (λ p0. slot_at p0.1 >>= λ p1. operand_at p1.1 >>= λ p2. operand_if p2.1 >>= λ b. one_word (w.Op p0.0 p1.0 p2.0 b)) o (32 ∷ (slot_text to ++ (32 ∷ (operand_text a ++ (spaced (if_words b)))))) tt refl
     ∙ then_again slot_reads (λ p1. operand_at p1.1 >>= λ p2. operand_if p2.1 >>= λ b. one_word (w.Op o p1.0 p2.0 b)) to (32 ∷ (operand_text a ++ (spaced (if_words b)))) f.0 refl
-    ∙ then_again operand_reads (λ p2. operand_if p2.1 >>= λ b. one_word (w.Op o to p2.0 b)) a (spaced (if_words b)) f.1.0 (breaks (if_words b))
-    ∙ ap (λ o. o >>= λ b. one_word (w.Op o to a b)) (if_again b f.1.1)
+    ∙ then_again operand_reads (λ p2. operand_if p2.1 >>= λ b. one_word (w.Op o to p2.0 b)) a (spaced (if_words b)) f.1 (breaks (if_words b))
+    ∙ ap (λ r. r >>= λ b. one_word (w.Op o to a b)) (if_again b f.2)
 
 get_of-taken : (bytes : List ℕ) (y : Word) → get_of bytes ≡ Some y → Behind verb.Get y bytes
 unfolding get_of
@@ -201,8 +201,8 @@ get_of-again : (to : ℕ) (a : Operand) (m : Member) → WordFits (w.Get to a m)
 unfolding get_of
 get_of-again to a m f =
     then_again slot_reads (λ p0. operand_at p0.1 >>= λ p1. member_at p1.1 >>= λ p2. end_at p2.1 >>= λ _. one_word (w.Get p0.0 p1.0 p2.0)) to (32 ∷ (operand_text a ++ (32 ∷ (member_text m ++ [])))) f.0 refl
-    ∙ then_again operand_reads (λ p1. member_at p1.1 >>= λ p2. end_at p2.1 >>= λ _. one_word (w.Get to p1.0 p2.0)) a (32 ∷ (member_text m ++ [])) f.1.0 refl
-    ∙ then_again member_reads (λ p2. end_at p2.1 >>= λ _. one_word (w.Get to a p2.0)) m [] f.1.1 tt
+    ∙ then_again operand_reads (λ p1. member_at p1.1 >>= λ p2. end_at p2.1 >>= λ _. one_word (w.Get to p1.0 p2.0)) a (32 ∷ (member_text m ++ [])) f.1 refl
+    ∙ then_again member_reads (λ p2. end_at p2.1 >>= λ _. one_word (w.Get to a p2.0)) m [] f.2 tt
 
 put_of-taken : (bytes : List ℕ) (y : Word) → put_of bytes ≡ Some y → Behind verb.Put y bytes
 unfolding put_of
@@ -216,8 +216,8 @@ put_of-again : (a : Operand) (m : Member) (b : Operand) → WordFits (w.Put a m 
 unfolding put_of
 put_of-again a m b f =
     then_again operand_reads (λ p0. member_at p0.1 >>= λ p1. operand_at p1.1 >>= λ p2. end_at p2.1 >>= λ _. one_word (w.Put p0.0 p1.0 p2.0)) a (32 ∷ (member_text m ++ (32 ∷ (operand_text b ++ [])))) f.0 refl
-    ∙ then_again member_reads (λ p1. operand_at p1.1 >>= λ p2. end_at p2.1 >>= λ _. one_word (w.Put a p1.0 p2.0)) m (32 ∷ (operand_text b ++ [])) f.1.0 refl
-    ∙ then_again operand_reads (λ p2. end_at p2.1 >>= λ _. one_word (w.Put a m p2.0)) b [] f.1.1 tt
+    ∙ then_again member_reads (λ p1. operand_at p1.1 >>= λ p2. end_at p2.1 >>= λ _. one_word (w.Put a p1.0 p2.0)) m (32 ∷ (operand_text b ++ [])) f.1 refl
+    ∙ then_again operand_reads (λ p2. end_at p2.1 >>= λ _. one_word (w.Put a m p2.0)) b [] f.2 tt
 
 load_of-taken : (bytes : List ℕ) (y : Word) → load_of bytes ≡ Some y → Behind verb.Load y bytes
 unfolding load_of
@@ -231,8 +231,8 @@ load_of-again : (to : ℕ) (a : Operand) (b : Operand) → WordFits (w.Load to a
 unfolding load_of
 load_of-again to a b f =
     then_again slot_reads (λ p0. operand_at p0.1 >>= λ p1. operand_at p1.1 >>= λ p2. end_at p2.1 >>= λ _. one_word (w.Load p0.0 p1.0 p2.0)) to (32 ∷ (operand_text a ++ (32 ∷ (operand_text b ++ [])))) f.0 refl
-    ∙ then_again operand_reads (λ p1. operand_at p1.1 >>= λ p2. end_at p2.1 >>= λ _. one_word (w.Load to p1.0 p2.0)) a (32 ∷ (operand_text b ++ [])) f.1.0 refl
-    ∙ then_again operand_reads (λ p2. end_at p2.1 >>= λ _. one_word (w.Load to a p2.0)) b [] f.1.1 tt
+    ∙ then_again operand_reads (λ p1. operand_at p1.1 >>= λ p2. end_at p2.1 >>= λ _. one_word (w.Load to p1.0 p2.0)) a (32 ∷ (operand_text b ++ [])) f.1 refl
+    ∙ then_again operand_reads (λ p2. end_at p2.1 >>= λ _. one_word (w.Load to a p2.0)) b [] f.2 tt
 
 store_of-taken : (bytes : List ℕ) (y : Word) → store_of bytes ≡ Some y → Behind verb.Store y bytes
 unfolding store_of
@@ -246,8 +246,8 @@ store_of-again : (a : Operand) (b : Operand) (c : Operand) → WordFits (w.Store
 unfolding store_of
 store_of-again a b c f =
     then_again operand_reads (λ p0. operand_at p0.1 >>= λ p1. operand_at p1.1 >>= λ p2. end_at p2.1 >>= λ _. one_word (w.Store p0.0 p1.0 p2.0)) a (32 ∷ (operand_text b ++ (32 ∷ (operand_text c ++ [])))) f.0 refl
-    ∙ then_again operand_reads (λ p1. operand_at p1.1 >>= λ p2. end_at p2.1 >>= λ _. one_word (w.Store a p1.0 p2.0)) b (32 ∷ (operand_text c ++ [])) f.1.0 refl
-    ∙ then_again operand_reads (λ p2. end_at p2.1 >>= λ _. one_word (w.Store a b p2.0)) c [] f.1.1 tt
+    ∙ then_again operand_reads (λ p1. operand_at p1.1 >>= λ p2. end_at p2.1 >>= λ _. one_word (w.Store a p1.0 p2.0)) b (32 ∷ (operand_text c ++ [])) f.1 refl
+    ∙ then_again operand_reads (λ p2. end_at p2.1 >>= λ _. one_word (w.Store a b p2.0)) c [] f.2 tt
 
 len_of-taken : (bytes : List ℕ) (y : Word) → len_of bytes ≡ Some y → Behind verb.Len y bytes
 unfolding len_of
@@ -274,8 +274,8 @@ new_of-again : (to : ℕ) (class : List ℕ) (site : ℕ) → WordFits (w.New to
 unfolding new_of
 new_of-again to class site f =
     then_again slot_reads (λ p0. class_at p0.1 >>= λ p1. u16_at p1.1 >>= λ p2. end_at p2.1 >>= λ _. one_word (w.New p0.0 p1.0 p2.0)) to (32 ∷ (class ++ (32 ∷ (decimal site ++ [])))) f.0 refl
-    ∙ then_again class_reads (λ p1. u16_at p1.1 >>= λ p2. end_at p2.1 >>= λ _. one_word (w.New to p1.0 p2.0)) class (32 ∷ (decimal site ++ [])) f.1.0 refl
-    ∙ then_again u16_reads (λ p2. end_at p2.1 >>= λ _. one_word (w.New to class p2.0)) site [] f.1.1 tt
+    ∙ then_again class_reads (λ p1. u16_at p1.1 >>= λ p2. end_at p2.1 >>= λ _. one_word (w.New to p1.0 p2.0)) class (32 ∷ (decimal site ++ [])) f.1 refl
+    ∙ then_again u16_reads (λ p2. end_at p2.1 >>= λ _. one_word (w.New to class p2.0)) site [] f.2 tt
 
 array_of-taken : (bytes : List ℕ) (y : Word) → array_of bytes ≡ Some y → Behind verb.Array y bytes
 unfolding array_of
@@ -290,9 +290,9 @@ array_of-again : (to : ℕ) (el : Element) (a : Operand) (site : ℕ) → WordFi
 unfolding array_of
 array_of-again to el a site f =
     then_again slot_reads (λ p0. element_at p0.1 >>= λ p1. operand_at p1.1 >>= λ p2. u16_at p2.1 >>= λ p3. end_at p3.1 >>= λ _. one_word (w.Array p0.0 p1.0 p2.0 p3.0)) to (32 ∷ (element_name el ++ (32 ∷ (operand_text a ++ (32 ∷ (decimal site ++ [])))))) f.0 refl
-    ∙ then_again element_reads (λ p1. operand_at p1.1 >>= λ p2. u16_at p2.1 >>= λ p3. end_at p3.1 >>= λ _. one_word (w.Array to p1.0 p2.0 p3.0)) el (32 ∷ (operand_text a ++ (32 ∷ (decimal site ++ [])))) f.1.0 refl
-    ∙ then_again operand_reads (λ p2. u16_at p2.1 >>= λ p3. end_at p3.1 >>= λ _. one_word (w.Array to el p2.0 p3.0)) a (32 ∷ (decimal site ++ [])) f.1.1.0 refl
-    ∙ then_again u16_reads (λ p3. end_at p3.1 >>= λ _. one_word (w.Array to el a p3.0)) site [] f.1.1.1 tt
+    ∙ then_again element_reads (λ p1. operand_at p1.1 >>= λ p2. u16_at p2.1 >>= λ p3. end_at p3.1 >>= λ _. one_word (w.Array to p1.0 p2.0 p3.0)) el (32 ∷ (operand_text a ++ (32 ∷ (decimal site ++ [])))) f.1 refl
+    ∙ then_again operand_reads (λ p2. u16_at p2.1 >>= λ p3. end_at p3.1 >>= λ _. one_word (w.Array to el p2.0 p3.0)) a (32 ∷ (decimal site ++ [])) f.2 refl
+    ∙ then_again u16_reads (λ p3. end_at p3.1 >>= λ _. one_word (w.Array to el a p3.0)) site [] f.3 tt
 
 call_of-taken : (bytes : List ℕ) (y : Word) → call_of bytes ≡ Some y → Behind verb.Call y bytes
 unfolding call_of
@@ -300,16 +300,16 @@ call_of-taken bytes y e =
     then_taken or_none_reads (λ bs. Behind verb.Call y bs) (λ p0. operand_at p0.1 >>= λ p1. member_at p1.1 >>= λ p2. operands_to_end p2.1 >>= λ xs. one_word (w.Call p0.0 p1.0 p2.0 xs)) bytes y e (λ to r0 f0 h0.
     then_taken operand_reads (λ bs. Behind verb.Call y (32 ∷ (slot_or_none to ++ bs))) (λ p1. member_at p1.1 >>= λ p2. operands_to_end p2.1 >>= λ xs. one_word (w.Call to p1.0 p2.0 xs)) r0 y h0 (λ a r1 f1 h1.
     then_taken member_reads (λ bs. Behind verb.Call y (32 ∷ (slot_or_none to ++ (32 ∷ (operand_text a ++ bs))))) (λ p2. operands_to_end p2.1 >>= λ xs. one_word (w.Call to a p2.0 xs)) r1 y h1 (λ m r2 f2 h2.
-    let m = bind_some (operands_to_end r2) (λ xs. one_word (w.Call to a m xs)) y h2 in
-    subst (λ z. Behind verb.Call z (32 ∷ (slot_or_none to ++ (32 ∷ (operand_text a ++ (32 ∷ (member_text m ++ r2))))))) (some_is (w.Call to a m m.0) y m.2) (operands_taken (λ bs. Behind verb.Call (w.Call to a m m.0) (32 ∷ (slot_or_none to ++ (32 ∷ (operand_text a ++ (32 ∷ (member_text m ++ bs))))))) r2 m.0 m.1 (λ f3. ((f0, f1, f2, f3), refl))))))
+    let q = bind_some (operands_to_end r2) (λ xs. one_word (w.Call to a m xs)) y h2 in
+    subst (λ z. Behind verb.Call z (32 ∷ (slot_or_none to ++ (32 ∷ (operand_text a ++ (32 ∷ (member_text m ++ r2))))))) (some_is (w.Call to a m q.0) y q.2) (operands_taken (λ bs. Behind verb.Call (w.Call to a m q.0) (32 ∷ (slot_or_none to ++ (32 ∷ (operand_text a ++ (32 ∷ (member_text m ++ bs))))))) r2 q.0 q.1 (λ f3. ((f0, f1, f2, f3), refl))))))
 
 call_of-again : (to : Option ℕ) (a : Operand) (m : Member) (xs : List Operand) → WordFits (w.Call to a m xs) → call_of (32 ∷ (slot_or_none to ++ (32 ∷ (operand_text a ++ (32 ∷ (member_text m ++ (spaced (operands xs)))))))) ≡ Some (w.Call to a m xs)
 unfolding call_of
 call_of-again to a m xs f =
     then_again or_none_reads (λ p0. operand_at p0.1 >>= λ p1. member_at p1.1 >>= λ p2. operands_to_end p2.1 >>= λ xs. one_word (w.Call p0.0 p1.0 p2.0 xs)) to (32 ∷ (operand_text a ++ (32 ∷ (member_text m ++ (spaced (operands xs)))))) f.0 refl
-    ∙ then_again operand_reads (λ p1. member_at p1.1 >>= λ p2. operands_to_end p2.1 >>= λ xs. one_word (w.Call to p1.0 p2.0 xs)) a (32 ∷ (member_text m ++ (spaced (operands xs)))) f.1.0 refl
-    ∙ then_again member_reads (λ p2. operands_to_end p2.1 >>= λ xs. one_word (w.Call to a p2.0 xs)) m (spaced (operands xs)) f.1.1.0 (breaks (operands xs))
-    ∙ ap (λ o. o >>= λ xs. one_word (w.Call to a m xs)) (operands_again xs f.1.1.1)
+    ∙ then_again operand_reads (λ p1. member_at p1.1 >>= λ p2. operands_to_end p2.1 >>= λ xs. one_word (w.Call to p1.0 p2.0 xs)) a (32 ∷ (member_text m ++ (spaced (operands xs)))) f.1 refl
+    ∙ then_again member_reads (λ p2. operands_to_end p2.1 >>= λ xs. one_word (w.Call to a p2.0 xs)) m (spaced (operands xs)) f.2 (breaks (operands xs))
+    ∙ ap (λ r. r >>= λ xs. one_word (w.Call to a m xs)) (operands_again xs f.3)
 
 query_of-taken : (bytes : List ℕ) (y : Word) → query_of bytes ≡ Some y → Behind verb.Query y bytes
 unfolding query_of
@@ -317,31 +317,31 @@ query_of-taken bytes y e =
     then_taken slot_reads (λ bs. Behind verb.Query y bs) (λ p0. u16_at p0.1 >>= λ p1. u16_at p1.1 >>= λ p2. operands_to_end p2.1 >>= λ xs. one_word (w.Query p0.0 p1.0 p2.0 xs)) bytes y e (λ to r0 f0 h0.
     then_taken u16_reads (λ bs. Behind verb.Query y (32 ∷ (slot_text to ++ bs))) (λ p1. u16_at p1.1 >>= λ p2. operands_to_end p2.1 >>= λ xs. one_word (w.Query to p1.0 p2.0 xs)) r0 y h0 (λ statement r1 f1 h1.
     then_taken u16_reads (λ bs. Behind verb.Query y (32 ∷ (slot_text to ++ (32 ∷ (decimal statement ++ bs))))) (λ p2. operands_to_end p2.1 >>= λ xs. one_word (w.Query to statement p2.0 xs)) r1 y h1 (λ site r2 f2 h2.
-    let m = bind_some (operands_to_end r2) (λ xs. one_word (w.Query to statement site xs)) y h2 in
-    subst (λ z. Behind verb.Query z (32 ∷ (slot_text to ++ (32 ∷ (decimal statement ++ (32 ∷ (decimal site ++ r2))))))) (some_is (w.Query to statement site m.0) y m.2) (operands_taken (λ bs. Behind verb.Query (w.Query to statement site m.0) (32 ∷ (slot_text to ++ (32 ∷ (decimal statement ++ (32 ∷ (decimal site ++ bs))))))) r2 m.0 m.1 (λ f3. ((f0, f1, f2, f3), refl))))))
+    let q = bind_some (operands_to_end r2) (λ xs. one_word (w.Query to statement site xs)) y h2 in
+    subst (λ z. Behind verb.Query z (32 ∷ (slot_text to ++ (32 ∷ (decimal statement ++ (32 ∷ (decimal site ++ r2))))))) (some_is (w.Query to statement site q.0) y q.2) (operands_taken (λ bs. Behind verb.Query (w.Query to statement site q.0) (32 ∷ (slot_text to ++ (32 ∷ (decimal statement ++ (32 ∷ (decimal site ++ bs))))))) r2 q.0 q.1 (λ f3. ((f0, f1, f2, f3), refl))))))
 
 query_of-again : (to : ℕ) (statement : ℕ) (site : ℕ) (xs : List Operand) → WordFits (w.Query to statement site xs) → query_of (32 ∷ (slot_text to ++ (32 ∷ (decimal statement ++ (32 ∷ (decimal site ++ (spaced (operands xs)))))))) ≡ Some (w.Query to statement site xs)
 unfolding query_of
 query_of-again to statement site xs f =
     then_again slot_reads (λ p0. u16_at p0.1 >>= λ p1. u16_at p1.1 >>= λ p2. operands_to_end p2.1 >>= λ xs. one_word (w.Query p0.0 p1.0 p2.0 xs)) to (32 ∷ (decimal statement ++ (32 ∷ (decimal site ++ (spaced (operands xs)))))) f.0 refl
-    ∙ then_again u16_reads (λ p1. u16_at p1.1 >>= λ p2. operands_to_end p2.1 >>= λ xs. one_word (w.Query to p1.0 p2.0 xs)) statement (32 ∷ (decimal site ++ (spaced (operands xs)))) f.1.0 refl
-    ∙ then_again u16_reads (λ p2. operands_to_end p2.1 >>= λ xs. one_word (w.Query to statement p2.0 xs)) site (spaced (operands xs)) f.1.1.0 (breaks (operands xs))
-    ∙ ap (λ o. o >>= λ xs. one_word (w.Query to statement site xs)) (operands_again xs f.1.1.1)
+    ∙ then_again u16_reads (λ p1. u16_at p1.1 >>= λ p2. operands_to_end p2.1 >>= λ xs. one_word (w.Query to p1.0 p2.0 xs)) statement (32 ∷ (decimal site ++ (spaced (operands xs)))) f.1 refl
+    ∙ then_again u16_reads (λ p2. operands_to_end p2.1 >>= λ xs. one_word (w.Query to statement p2.0 xs)) site (spaced (operands xs)) f.2 (breaks (operands xs))
+    ∙ ap (λ r. r >>= λ xs. one_word (w.Query to statement site xs)) (operands_again xs f.3)
 
 update_of-taken : (bytes : List ℕ) (y : Word) → update_of bytes ≡ Some y → Behind verb.Update y bytes
 unfolding update_of
 update_of-taken bytes y e =
     then_taken slot_reads (λ bs. Behind verb.Update y bs) (λ p0. u16_at p0.1 >>= λ p1. operands_to_end p1.1 >>= λ xs. one_word (w.Update p0.0 p1.0 xs)) bytes y e (λ to r0 f0 h0.
     then_taken u16_reads (λ bs. Behind verb.Update y (32 ∷ (slot_text to ++ bs))) (λ p1. operands_to_end p1.1 >>= λ xs. one_word (w.Update to p1.0 xs)) r0 y h0 (λ statement r1 f1 h1.
-    let m = bind_some (operands_to_end r1) (λ xs. one_word (w.Update to statement xs)) y h1 in
-    subst (λ z. Behind verb.Update z (32 ∷ (slot_text to ++ (32 ∷ (decimal statement ++ r1))))) (some_is (w.Update to statement m.0) y m.2) (operands_taken (λ bs. Behind verb.Update (w.Update to statement m.0) (32 ∷ (slot_text to ++ (32 ∷ (decimal statement ++ bs))))) r1 m.0 m.1 (λ f2. ((f0, f1, f2), refl)))))
+    let q = bind_some (operands_to_end r1) (λ xs. one_word (w.Update to statement xs)) y h1 in
+    subst (λ z. Behind verb.Update z (32 ∷ (slot_text to ++ (32 ∷ (decimal statement ++ r1))))) (some_is (w.Update to statement q.0) y q.2) (operands_taken (λ bs. Behind verb.Update (w.Update to statement q.0) (32 ∷ (slot_text to ++ (32 ∷ (decimal statement ++ bs))))) r1 q.0 q.1 (λ f2. ((f0, f1, f2), refl)))))
 
 update_of-again : (to : ℕ) (statement : ℕ) (xs : List Operand) → WordFits (w.Update to statement xs) → update_of (32 ∷ (slot_text to ++ (32 ∷ (decimal statement ++ (spaced (operands xs)))))) ≡ Some (w.Update to statement xs)
 unfolding update_of
 update_of-again to statement xs f =
     then_again slot_reads (λ p0. u16_at p0.1 >>= λ p1. operands_to_end p1.1 >>= λ xs. one_word (w.Update p0.0 p1.0 xs)) to (32 ∷ (decimal statement ++ (spaced (operands xs)))) f.0 refl
-    ∙ then_again u16_reads (λ p1. operands_to_end p1.1 >>= λ xs. one_word (w.Update to p1.0 xs)) statement (spaced (operands xs)) f.1.0 (breaks (operands xs))
-    ∙ ap (λ o. o >>= λ xs. one_word (w.Update to statement xs)) (operands_again xs f.1.1)
+    ∙ then_again u16_reads (λ p1. operands_to_end p1.1 >>= λ xs. one_word (w.Update to p1.0 xs)) statement (spaced (operands xs)) f.1 (breaks (operands xs))
+    ∙ ap (λ r. r >>= λ xs. one_word (w.Update to statement xs)) (operands_again xs f.2)
 
 next_of-taken : (bytes : List ℕ) (y : Word) → next_of bytes ≡ Some y → Behind verb.Next y bytes
 unfolding next_of
@@ -368,8 +368,8 @@ long_column_of-again : (to : ℕ) (a : Operand) (b : Operand) → WordFits (w.Lo
 unfolding long_column_of
 long_column_of-again to a b f =
     then_again slot_reads (λ p0. operand_at p0.1 >>= λ p1. operand_at p1.1 >>= λ p2. end_at p2.1 >>= λ _. one_word (w.Long p0.0 p1.0 p2.0)) to (32 ∷ (operand_text a ++ (32 ∷ (operand_text b ++ [])))) f.0 refl
-    ∙ then_again operand_reads (λ p1. operand_at p1.1 >>= λ p2. end_at p2.1 >>= λ _. one_word (w.Long to p1.0 p2.0)) a (32 ∷ (operand_text b ++ [])) f.1.0 refl
-    ∙ then_again operand_reads (λ p2. end_at p2.1 >>= λ _. one_word (w.Long to a p2.0)) b [] f.1.1 tt
+    ∙ then_again operand_reads (λ p1. operand_at p1.1 >>= λ p2. end_at p2.1 >>= λ _. one_word (w.Long to p1.0 p2.0)) a (32 ∷ (operand_text b ++ [])) f.1 refl
+    ∙ then_again operand_reads (λ p2. end_at p2.1 >>= λ _. one_word (w.Long to a p2.0)) b [] f.2 tt
 
 text_column_of-taken : (bytes : List ℕ) (y : Word) → text_column_of bytes ≡ Some y → Behind verb.Text y bytes
 unfolding text_column_of
@@ -383,14 +383,14 @@ text_column_of-again : (to : ℕ) (a : Operand) (b : Operand) → WordFits (w.Te
 unfolding text_column_of
 text_column_of-again to a b f =
     then_again slot_reads (λ p0. operand_at p0.1 >>= λ p1. operand_at p1.1 >>= λ p2. end_at p2.1 >>= λ _. one_word (w.Text p0.0 p1.0 p2.0)) to (32 ∷ (operand_text a ++ (32 ∷ (operand_text b ++ [])))) f.0 refl
-    ∙ then_again operand_reads (λ p1. operand_at p1.1 >>= λ p2. end_at p2.1 >>= λ _. one_word (w.Text to p1.0 p2.0)) a (32 ∷ (operand_text b ++ [])) f.1.0 refl
-    ∙ then_again operand_reads (λ p2. end_at p2.1 >>= λ _. one_word (w.Text to a p2.0)) b [] f.1.1 tt
+    ∙ then_again operand_reads (λ p1. operand_at p1.1 >>= λ p2. end_at p2.1 >>= λ _. one_word (w.Text to p1.0 p2.0)) a (32 ∷ (operand_text b ++ [])) f.1 refl
+    ∙ then_again operand_reads (λ p2. end_at p2.1 >>= λ _. one_word (w.Text to a p2.0)) b [] f.2 tt
 
 print_of-taken : (bytes : List ℕ) (y : Word) → print_of bytes ≡ Some y → Behind verb.Print y bytes
 unfolding print_of
 print_of-taken bytes y e =
-    let m = bind_some (operand_of bytes) (λ a. one_word (w.Print a)) y e in
-    subst (λ z. Behind verb.Print z bytes) (some_is (w.Print m.0) y m.2) (last_taken (λ bs. Behind verb.Print (w.Print m.0) bs) bytes m.0 m.1 (λ f. (f, refl)))
+    let q = bind_some (operand_of bytes) (λ a. one_word (w.Print a)) y e in
+    subst (λ z. Behind verb.Print z bytes) (some_is (w.Print q.0) y q.2) (last_taken (λ bs. Behind verb.Print (w.Print q.0) bs) bytes q.0 q.1 (λ f. (f, refl)))
 
 print_of-again : (a : Operand) → OperandFits a → print_of (32 ∷ (operand_text a ++ [])) ≡ Some (w.Print a)
 unfolding print_of
@@ -399,8 +399,8 @@ print_of-again a f = ap (λ o. o >>= λ a. one_word (w.Print a)) (last_again a f
 return_of-taken : (bytes : List ℕ) (y : Word) → return_of bytes ≡ Some y → Behind verb.Return y bytes
 unfolding return_of
 return_of-taken bytes y e =
-    let m = bind_some (operand_if bytes) (λ a. one_word (w.Return a)) y e in
-    subst (λ z. Behind verb.Return z bytes) (some_is (w.Return m.0) y m.2) (if_taken (λ bs. Behind verb.Return (w.Return m.0) bs) bytes m.0 m.1 (λ f. (f, refl)))
+    let q = bind_some (operand_if bytes) (λ a. one_word (w.Return a)) y e in
+    subst (λ z. Behind verb.Return z bytes) (some_is (w.Return q.0) y q.2) (if_taken (λ bs. Behind verb.Return (w.Return q.0) bs) bytes q.0 q.1 (λ f. (f, refl)))
 
 return_of-again : (a : Option Operand) → OperandIfFits a → return_of (spaced (if_words a)) ≡ Some (w.Return a)
 unfolding return_of
@@ -494,23 +494,23 @@ words_are (w.Print a) = refl
 words_are (w.Return a) = refl
 
 pub verb_plain : (v : Verb) → HasNo 32 (verb_name v)
-verb_plain verb.Set = (refl, refl, refl, tt)
-verb_plain verb.Op = (refl, refl, tt)
-verb_plain verb.Get = (refl, refl, refl, tt)
-verb_plain verb.Put = (refl, refl, refl, tt)
-verb_plain verb.Load = (refl, refl, refl, refl, tt)
-verb_plain verb.Store = (refl, refl, refl, refl, refl, tt)
-verb_plain verb.Len = (refl, refl, refl, tt)
-verb_plain verb.New = (refl, refl, refl, tt)
-verb_plain verb.Array = (refl, refl, refl, refl, refl, tt)
-verb_plain verb.Call = (refl, refl, refl, refl, tt)
-verb_plain verb.Query = (refl, refl, refl, refl, refl, tt)
-verb_plain verb.Update = (refl, refl, refl, refl, refl, refl, tt)
-verb_plain verb.Next = (refl, refl, refl, refl, tt)
-verb_plain verb.Long = (refl, refl, refl, refl, tt)
-verb_plain verb.Text = (refl, refl, refl, refl, tt)
-verb_plain verb.Print = (refl, refl, refl, refl, refl, tt)
-verb_plain verb.Return = (refl, refl, refl, refl, refl, refl, tt)
+verb_plain verb.Set = (refl, (refl, (refl, tt)))
+verb_plain verb.Op = (refl, (refl, tt))
+verb_plain verb.Get = (refl, (refl, (refl, tt)))
+verb_plain verb.Put = (refl, (refl, (refl, tt)))
+verb_plain verb.Load = (refl, (refl, (refl, (refl, tt))))
+verb_plain verb.Store = (refl, (refl, (refl, (refl, (refl, tt)))))
+verb_plain verb.Len = (refl, (refl, (refl, tt)))
+verb_plain verb.New = (refl, (refl, (refl, tt)))
+verb_plain verb.Array = (refl, (refl, (refl, (refl, (refl, tt)))))
+verb_plain verb.Call = (refl, (refl, (refl, (refl, tt))))
+verb_plain verb.Query = (refl, (refl, (refl, (refl, (refl, tt)))))
+verb_plain verb.Update = (refl, (refl, (refl, (refl, (refl, (refl, tt))))))
+verb_plain verb.Next = (refl, (refl, (refl, (refl, tt))))
+verb_plain verb.Long = (refl, (refl, (refl, (refl, tt))))
+verb_plain verb.Text = (refl, (refl, (refl, (refl, tt))))
+verb_plain verb.Print = (refl, (refl, (refl, (refl, (refl, tt)))))
+verb_plain verb.Return = (refl, (refl, (refl, (refl, (refl, (refl, tt))))))
 
 pub behind_breaks : (y : Word) → IsBreak (behind_verb y)
 behind_breaks y = breaks (rest_of (words_of y))
