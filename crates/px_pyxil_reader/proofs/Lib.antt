@@ -6,3 +6,5 @@ pub mod TextsRead
 pub mod OperandsRead
 pub mod StatementsRead
 pub mod LinesRead
+pub mod Trees
+pub mod MachineRuns
