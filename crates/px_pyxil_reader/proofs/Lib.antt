@@ -6,5 +6,3 @@ pub mod TextsRead
 pub mod OperandsRead
 pub mod StatementsRead
 pub mod LinesRead
-pub mod Trees
-pub mod MachineRuns

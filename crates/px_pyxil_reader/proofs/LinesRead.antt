@@ -159,10 +159,10 @@ node_taken first bytes y e =
     let n = bind_some (u32_of first) (λ node. side_at bytes >>= behind_node node) y e in
     let p = u32_word.taken first n.0 n.1 in
     then_taken side_reads (λ bs. Begins first y bs) (behind_node n.0) bytes y n.2 (λ s rest f h.
-        let at : At = record { node = n.0; side = s } in
-        let w = bind_some (word_at rest) (λ word. placed_by at word.0 word.1) y h in
-        let q = placed_taken at w.0.0 w.0.1 y p.0 w.2 in
-        (q.0, q.1 ∙ ap (λ d. d ++ (32 ∷ (side_name s ++ (32 ∷ (w.0.0 ++ w.0.1))))) p.1 ∙ ap (λ bs. first ++ (32 ∷ (side_name s ++ bs))) (sym (spaced_word rest w.0 w.1))))
+    let at : At = record { node = n.0; side = s } in
+    let w = bind_some (word_at rest) (λ word. placed_by at word.0 word.1) y h in
+    let q = placed_taken at w.0.0 w.0.1 y p.0 w.2 in
+    (q.0, q.1 ∙ ap (λ d. d ++ (32 ∷ (side_name s ++ (32 ∷ (w.0.0 ++ w.0.1))))) p.1 ∙ ap (λ bs. first ++ (32 ∷ (side_name s ++ bs))) (sym (spaced_word rest w.0 w.1))))
 
 bare_taken : (l : Line) (word bytes : List ℕ) (y : Line) → LineFits l → line_words l ≡ word → bare l bytes ≡ Some y → Begins word y bytes
 bare_taken l word bytes y f s e = end_taken (λ z bs. Begins word z bs) bytes l y e (f, s ∙ sym (append-nil word))

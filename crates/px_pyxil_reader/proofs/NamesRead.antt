@@ -84,7 +84,7 @@ unfolding side_of
 side_taken word s e = found_taken side_name sides word s (refl, (refl, tt)) e
 
 pub side_word : ReadsWord (λ _. ⊤) side_name side_of
-side_word = record { again = λ s _. side_again s; taken = λ word s e. (tt, side_taken word s e); }
+side_word = record { again = λ s _. side_again s; taken = λ word s e. (tt, side_taken word s e) }
 
 abbrev ops : List (List ℕ × Op)
 ops = (codes "add", op.Add) ∷ (codes "sub", op.Sub) ∷ (codes "mul", op.Mul) ∷ (codes "div", op.Div) ∷ (codes "rem", op.Rem) ∷ (codes "and", op.And) ∷ (codes "or", op.Or) ∷ (codes "xor", op.Xor) ∷ (codes "shl", op.Shl) ∷ (codes "shr", op.Shr) ∷ (codes "ushr", op.Ushr) ∷ (codes "lt", op.Lt) ∷ (codes "le", op.Le) ∷ (codes "gt", op.Gt) ∷ (codes "ge", op.Ge) ∷ (codes "eq", op.Eq) ∷ (codes "ne", op.Ne) ∷ (codes "neg", op.Neg) ∷ (codes "inv", op.Inv) ∷ (codes "not", op.Not) ∷ (codes "widen", op.Widen) ∷ (codes "narrow", op.Narrow) ∷ (codes "concat", op.Concat) ∷ (codes "equals", op.Equals) ∷ (codes "length", op.Length) ∷ []
@@ -122,7 +122,7 @@ unfolding op_of
 op_taken word o e = found_taken op_name ops word o (refl, (refl, (refl, (refl, (refl, (refl, (refl, (refl, (refl, (refl, (refl, (refl, (refl, (refl, (refl, (refl, (refl, (refl, (refl, (refl, (refl, (refl, (refl, (refl, (refl, tt))))))))))))))))))))))))) e
 
 pub op_word : ReadsWord (λ _. ⊤) op_name op_of
-op_word = record { again = λ o _. op_again o; taken = λ word o e. (tt, op_taken word o e); }
+op_word = record { again = λ o _. op_again o; taken = λ word o e. (tt, op_taken word o e) }
 
 -- ---- classes and members
 
@@ -135,7 +135,7 @@ unfolding class_of
 class_taken word class e = let g = guard_some (is_class word) word class e in (subst (λ x. IsClass x) g.1 g.0, sym g.1)
 
 pub class_word : ReadsWord IsClass (λ class. class) class_of
-class_word = record { again = class_again; taken = class_taken; }
+class_word = record { again = class_again; taken = class_taken }
 
 abbrev member_by : List ℕ × List ℕ → Option Member
 member_by p = dotted p.0 p.1
@@ -164,7 +164,7 @@ member_taken word m e =
     (p.0, p.1 ∙ cut_parts 46 word)
 
 pub member_word : ReadsWord MemberFits member_text member_of
-member_word = record { again = member_again; taken = member_taken; }
+member_word = record { again = member_again; taken = member_taken }
 
 pub member_has_no : (byte : ℕ) (m : Member) → is_word_byte byte ≡ false → (46 == byte) ≡ false → MemberFits m → HasNo byte (member_text m)
 member_has_no byte m h d f = has_no_both byte (m.class ++ 46 ∷ []) m.name (has_no_both byte m.class (46 ∷ []) (class_has_no byte m.class h f.0) (d, tt)) (name_has_no byte m.name h f.1)
@@ -208,7 +208,6 @@ element_again (element.Object class) h =
     let string : bytes_eq class (codes "String") ≡ false = not_true (bytes_eq class (codes "String")) (both_true (is_identifier class) (not (bytes_eq class (codes "String"))) h).1 in
     rw (differs class (codes "int") name int_is_none) (rw (differs class (codes "long") name long_is_none) (rw (differs class (codes "boolean") name boolean_is_none) (rw string (ap objects (class_again class h)))))
 
-
 abbrev IsElement : List ℕ → Element → Type 0
 IsElement word e = ElementFits e × (element_name e ≡ word)
 
@@ -234,7 +233,7 @@ element_taken word e h =
     ]
 
 pub element_word : ReadsWord ElementFits element_name element_of
-element_word = record { again = element_again; taken = element_taken; }
+element_word = record { again = element_again; taken = element_taken }
 
 pub element_has_no : (e : Element) → ElementFits e → HasNo 32 (element_name e)
 element_has_no element.Int h = (refl, (refl, (refl, tt)))

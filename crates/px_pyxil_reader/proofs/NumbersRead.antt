@@ -120,7 +120,7 @@ unfolding slot_of
 slot_again n h = u16_word.again n h
 
 pub slot_word : ReadsWord IsU16 slot_text slot_of
-slot_word = record { again = slot_again; taken = slot_taken; }
+slot_word = record { again = slot_again; taken = slot_taken }
 
 abbrev some_slot : ℕ → Option ℕ
 some_slot n = Some n
@@ -148,4 +148,4 @@ or_none_again None h = refl
 or_none_again (Some n) h = ap (λ o. option_map some_slot o) (slot_again n h)
 
 pub slot_or_none_word : ReadsWord SlotIfFits slot_or_none slot_or_none_of
-slot_or_none_word = record { again = or_none_again; taken = or_none_taken; }
+slot_or_none_word = record { again = or_none_again; taken = or_none_taken }

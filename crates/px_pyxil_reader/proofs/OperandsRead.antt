@@ -167,7 +167,7 @@ mark_taken (mark ∷ digits) a e = mark_by (mark == 37) (mark == 35) mark digits
 
 plain_word : ReadsWord PlainOperandFits operand_text plain_operand_of
 unfolding plain_operand_of
-plain_word = record { again = mark_again; taken = mark_taken; }
+plain_word = record { again = mark_again; taken = mark_taken }
 
 pub plain_has_no : (byte : ℕ) → byte < 35 → (a : Operand) → PlainOperandFits a → HasNo byte (operand_text a)
 plain_has_no byte l (Slot slot) f = (let e : (37 == byte) ≡ false = grind (arith, l) in e, number_has_no byte (decimal slot) (inl (omega (arith, l))) (decimal_bytes slot (omega (arith, f))))
@@ -238,7 +238,7 @@ operand_taken (first ∷ []) x e = plain_taken (first ∷ []) x e
 operand_taken (first ∷ second ∷ rest) x e = quote_by ((first == 32) && (second == 34)) first second rest x refl e
 
 pub operand_reads : Reads OperandFits operand_text operand_at
-operand_reads = record { again = operand_again; taken = operand_taken; }
+operand_reads = record { again = operand_again; taken = operand_taken }
 
 -- ---- the last operands
 
@@ -274,16 +274,16 @@ pub breaks : (ws : List (List ℕ)) → IsBreak (spaced ws)
 breaks [] = tt
 breaks (w ∷ ws) = refl
 
-abbrev next_of : ℕ → Operand × List ℕ → Option (List Operand)
-next_of most operand = option_map (λ more. operand.0 ∷ more) (operands_in most operand.1)
+abbrev next_of : List ℕ → Operand × List ℕ → Option (List Operand)
+next_of turns operand = option_map (λ more. operand.0 ∷ more) (operands_in turns operand.1)
 
-all_again : (most : ℕ) (xs : List Operand) → length xs ≤ most → OperandsFit xs → operands_in most (spaced (operands xs)) ≡ Some xs
-all_again zero [] l f = refl
-all_again (suc most) [] l f = refl
-all_again zero (a ∷ xs) l f = absurd (omega (arith, l))
-all_again (suc most) (a ∷ xs) l f =
-    then_again operand_reads (next_of most) a (spaced (operands xs)) f.0 (breaks (operands xs))
-    ∙ ap (λ o. option_map (λ more. a ∷ more) o) (all_again most xs (omega (arith, l)) f.1)
+all_again : (turns : List ℕ) (xs : List Operand) → length xs ≤ length turns → OperandsFit xs → operands_in turns (spaced (operands xs)) ≡ Some xs
+all_again [] [] l f = refl
+all_again (turn ∷ turns) [] l f = refl
+all_again [] (a ∷ xs) l f = absurd (omega (arith, l))
+all_again (turn ∷ turns) (a ∷ xs) l f =
+    then_again operand_reads (next_of turns) a (spaced (operands xs)) f.0 (breaks (operands xs))
+    ∙ ap (λ o. option_map (λ more. a ∷ more) o) (all_again turns xs (omega (arith, l)) f.1)
 
 words_long : (xs : List Operand) → length xs ≤ length (spaced (operands xs))
 words_long [] = omega arith
@@ -291,7 +291,7 @@ words_long (a ∷ xs) = let h = words_long xs in let e = length-append (operand_
 
 pub operands_again : (xs : List Operand) → OperandsFit xs → operands_to_end (spaced (operands xs)) ≡ Some xs
 unfolding operands_to_end
-operands_again xs f = all_again (length (spaced (operands xs))) xs (words_long xs) f
+operands_again xs f = all_again (spaced (operands xs)) xs (words_long xs) f
 
 abbrev AreOperands : List ℕ → List Operand → Type 0
 AreOperands bytes xs = OperandsFit xs × (bytes ≡ spaced (operands xs))
@@ -299,17 +299,17 @@ AreOperands bytes xs = OperandsFit xs × (bytes ≡ spaced (operands xs))
 abbrev no_operands : List Operand
 no_operands = []
 
-all_taken : (most : ℕ) (bytes : List ℕ) (xs : List Operand) → operands_in most bytes ≡ Some xs → AreOperands bytes xs
-all_taken zero [] xs e = let f : no_operands ≡ xs = some_is no_operands xs e in subst (AreOperands []) f (tt, refl)
-all_taken zero (b ∷ bytes) xs e = absurd cc
-all_taken (suc most) [] xs e = let f : no_operands ≡ xs = some_is no_operands xs e in subst (AreOperands []) f (tt, refl)
-all_taken (suc most) (b ∷ bytes) xs e =
-    then_taken operand_reads (λ bs. AreOperands bs xs) (next_of most) (b ∷ bytes) xs e
+all_taken : (turns : List ℕ) (bytes : List ℕ) (xs : List Operand) → operands_in turns bytes ≡ Some xs → AreOperands bytes xs
+all_taken [] [] xs e = let f : no_operands ≡ xs = some_is no_operands xs e in subst (AreOperands []) f (tt, refl)
+all_taken [] (b ∷ bytes) xs e = absurd cc
+all_taken (turn ∷ turns) [] xs e = let f : no_operands ≡ xs = some_is no_operands xs e in subst (AreOperands []) f (tt, refl)
+all_taken (turn ∷ turns) (b ∷ bytes) xs e =
+    then_taken operand_reads (λ bs. AreOperands bs xs) (next_of turns) (b ∷ bytes) xs e
     (λ a rest f h.
-        let m = mapped_some (λ more. a ∷ more) (operands_in most rest) xs h in
-        let p = all_taken most rest m.0 m.1 in
-        subst (AreOperands (32 ∷ (operand_text a ++ rest))) m.2 ((f, p.0), ap (λ bs. 32 ∷ (operand_text a ++ bs)) p.1))
+    let m = mapped_some (λ more. a ∷ more) (operands_in turns rest) xs h in
+    let p = all_taken turns rest m.0 m.1 in
+    subst (AreOperands (32 ∷ (operand_text a ++ rest))) m.2 ((f, p.0), ap (λ bs. 32 ∷ (operand_text a ++ bs)) p.1))
 
 pub operands_taken : (P : List ℕ → Type 0) (bytes : List ℕ) (xs : List Operand) → operands_to_end bytes ≡ Some xs → (OperandsFit xs → P (spaced (operands xs))) → P bytes
 unfolding operands_to_end
-operands_taken P bytes xs e go = let p = all_taken (length bytes) bytes xs e in subst P (sym p.1) (go p.0)
+operands_taken P bytes xs e go = let p = all_taken bytes bytes xs e in subst P (sym p.1) (go p.0)

@@ -2,4 +2,3 @@ pub mod Fitting
 pub mod Reading
 pub mod Statements
 pub mod LineReading
-pub mod Machine

@@ -261,14 +261,14 @@ abbrev pub operand_if : List ℕ → Option (Option Operand)
 operand_if [] = Some None
 operand_if (byte ∷ rest) = option_map Some (operand_of (byte ∷ rest))
 
--- the operands up to the end, of which there are at most so many
-abbrev pub operands_in : ℕ → List ℕ → Option (List Operand)
-operands_in zero bytes = if is_end bytes then Some [] else None
-operands_in (suc most) [] = Some []
-operands_in (suc most) (byte ∷ rest) = operand_at (byte ∷ rest) >>= λ operand. option_map (λ more. operand.0 ∷ more) (operands_in most operand.1)
+-- the operands up to the end, in at most so many turns as the list has items
+abbrev pub operands_in : List ℕ → List ℕ → Option (List Operand)
+operands_in [] bytes = if is_end bytes then Some [] else None
+operands_in (turn ∷ turns) [] = Some []
+operands_in (turn ∷ turns) (byte ∷ rest) = operand_at (byte ∷ rest) >>= λ operand. option_map (λ more. operand.0 ∷ more) (operands_in turns operand.1)
 
 unfoldable pub operands_to_end : List ℕ → Option (List Operand)
-operands_to_end bytes = operands_in (length bytes) bytes
+operands_to_end bytes = operands_in bytes bytes
 
 -- ---- statements
 

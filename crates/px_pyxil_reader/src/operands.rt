@@ -106,13 +106,18 @@ pub(crate) fn last_operands(alloc: Global, from: &[u8]) -> Result<Items<Operand>
 {
     let mut operands = Items::new(alloc);
     let mut rest = from;
-    for _turn in 0..from.len() {
-        if rest.is_empty() {
-            return Ok(operands);
+    // Each operand has a byte at least.
+    let mut turns = from;
+    while let [_, more_turns @ ..] = turns {
+        match rest {
+            [] => return Ok(operands),
+            [_, ..] => {
+                let (operand, more) = take_operand(alloc, rest)?;
+                operands.push(operand)?;
+                rest = more;
+            }
         }
-        let (operand, more) = take_operand(alloc, rest)?;
-        operands.push(operand)?;
-        rest = more;
+        turns = more_turns;
     }
     take_end(rest)?;
     Ok(operands)
