@@ -6,3 +6,9 @@ pub mod TextsRead
 pub mod OperandsRead
 pub mod StatementsRead
 pub mod LinesRead
+pub mod LineFeeds
+pub mod Trees
+pub mod MachineRuns
+pub mod MachineSound
+pub mod MachineEnds
+pub mod TextLaws

@@ -2,3 +2,5 @@ pub mod Fitting
 pub mod Reading
 pub mod Statements
 pub mod LineReading
+pub mod Machine
+pub mod Texts

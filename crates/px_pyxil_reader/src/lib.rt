@@ -1,6 +1,7 @@
 //! PyxIL read from its text.
 #![tactic(auto)]
 
+mod draft;
 mod lines;
 mod numbers;
 mod operands;
