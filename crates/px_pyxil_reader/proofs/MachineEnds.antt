@@ -18,17 +18,17 @@ use Rattle.px_pyxil.specs.declared.line.Line.TheVariants as line
 use Rattle.px_pyxil.specs.Lines.{lines_in, lines_in_all, method_lines, lines_of}
 use Rattle.px_pyxil.proofs.Trees.{lines_if, lines_loop}
 use Rattle.px_pyxil_reader.specs.declared.draft.Open.{Open}
-use Rattle.px_pyxil_reader.specs.declared.draft.Open.TheVariants as open
+use Rattle.px_pyxil_reader.specs.declared.draft.Open.TheVariants as form
 use Rattle.px_pyxil_reader.specs.declared.draft.Begun.{Begun}
 use Rattle.px_pyxil_reader.specs.declared.draft.Draft.{Draft}
 use Rattle.px_pyxil_reader.specs.Fitting.{LineFits}
 use Rattle.px_pyxil_reader.specs.Machine.{settled, draft_of}
 use Rattle.px_pyxil_reader.proofs.MachineSound.{open_lines, inside_lines, begun_lines, draft_lines, all_lines-append, one_more}
 
-abbrev AllFit : List Line → Type 0
+abbrev pub AllFit : List Line → Type 0
 AllFit ls = AllByRecursion LineFits ls
 
-both_fit : (xs ys : List Line) → AllFit xs → AllFit ys → AllFit (xs ++ ys)
+pub both_fit : (xs ys : List Line) → AllFit xs → AllFit ys → AllFit (xs ++ ys)
 both_fit [] ys h k = k
 both_fit (x ∷ xs) ys h k = (h.0, both_fit xs ys h.1 k)
 
@@ -53,7 +53,7 @@ regroup h r more tail = ap (λ ls. h ++ ls) (append_assoc r more tail) ∙ sym (
 
 close_all : (os : List Open) (trees : List Tree) → GoesOn (flat_map open_lines os ++ lines_in_all trees)
 close_all [] trees = (trees, [], sym (append-nil (lines_in_all trees)), tt)
-close_all (open.Yes before at test ∷ os) trees =
+close_all (form.Yes before at test ∷ os) trees =
     let g = close_all os trees in
     let r : List Line = flat_map open_lines os ++ lines_in_all trees in
     let h : List Line = lines_in_all before ++ line.If at test ∷ [] in
@@ -62,7 +62,7 @@ close_all (open.Yes before at test ∷ os) trees =
         close_one before (If at test g.0 []) (line.If at test ∷ []) (lines_in_all g.0) tail (lines_if at test g.0 [])
         ∙ ap (λ ls. h ++ (ls ++ tail)) g.2 ∙ regroup h r g.1 tail ∙ ap (λ ls. ls ++ (g.1 ++ tail)) (sym (append_assoc h (flat_map open_lines os) (lines_in_all trees))),
         both_fit g.1 tail g.3 (tt, (tt, tt)))
-close_all (open.No before at test yes' ∷ os) trees =
+close_all (form.No before at test yes' ∷ os) trees =
     let g = close_all os trees in
     let r : List Line = flat_map open_lines os ++ lines_in_all trees in
     let head : List Line = line.If at test ∷ (lines_in_all yes' ++ line.Else ∷ []) in
@@ -72,7 +72,7 @@ close_all (open.No before at test yes' ∷ os) trees =
         close_one before (If at test yes' g.0) head (lines_in_all g.0) tail (lines_if at test yes' g.0 ∙ ap (λ ls. line.If at test ∷ ls) (sym (append_assoc (lines_in_all yes') (line.Else ∷ []) (lines_in_all g.0 ++ tail))))
         ∙ ap (λ ls. h ++ (ls ++ tail)) g.2 ∙ regroup h r g.1 tail ∙ ap (λ ls. ls ++ (g.1 ++ tail)) (sym (append_assoc h (flat_map open_lines os) (lines_in_all trees))),
         both_fit g.1 tail g.3 (tt, tt))
-close_all (open.First before ∷ os) trees =
+close_all (form.First before ∷ os) trees =
     let g = close_all os trees in
     let r : List Line = flat_map open_lines os ++ lines_in_all trees in
     let h : List Line = lines_in_all before ++ line.Loop ∷ [] in
@@ -81,7 +81,7 @@ close_all (open.First before ∷ os) trees =
         close_one before (Loop g.0 some_at some_operand []) (line.Loop ∷ []) (lines_in_all g.0) tail (lines_loop g.0 some_at some_operand [])
         ∙ ap (λ ls. h ++ (ls ++ tail)) g.2 ∙ regroup h r g.1 tail ∙ ap (λ ls. ls ++ (g.1 ++ tail)) (sym (append_assoc h (flat_map open_lines os) (lines_in_all trees))),
         both_fit g.1 tail g.3 ((omega arith, omega arith), (tt, tt)))
-close_all (open.Body before first at test ∷ os) trees =
+close_all (form.Body before first at test ∷ os) trees =
     let g = close_all os trees in
     let r : List Line = flat_map open_lines os ++ lines_in_all trees in
     let head : List Line = line.Loop ∷ (lines_in_all first ++ line.Test at test ∷ []) in
@@ -107,7 +107,7 @@ completes_by fs ss ms None =
     let m : List Line = flat_map method_lines ms in
     (record { fields = fs; sites = ss; methods = ms }, [], ap (λ ls. f ++ (s ++ ls)) (sym (append-nil m)) ∙ sym (append-nil (f ++ (s ++ (m ++ [])))), tt)
 completes_by fs ss ms (Some b) =
-    let g = close_all b.inside.open (settled b.inside.trees b.inside.bare) in
+    let g = close_all b.inside.forms (settled b.inside.trees b.inside.bare) in
     let f : List Line = map line.Field fs in
     let s : List Line = map line.Site ss in
     let m : List Line = flat_map method_lines ms in

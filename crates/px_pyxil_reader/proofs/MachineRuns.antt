@@ -18,7 +18,7 @@ use Rattle.px_pyxil.specs.declared.line.Line.TheVariants as line
 use Rattle.px_pyxil.specs.Lines.{send_lines, lines_in, lines_in_all, method_lines, lines_of}
 use Rattle.px_pyxil.proofs.Trees.{lines_do, lines_if, lines_loop}
 use Rattle.px_pyxil_reader.specs.declared.draft.Open.{Open}
-use Rattle.px_pyxil_reader.specs.declared.draft.Open.TheVariants as open
+use Rattle.px_pyxil_reader.specs.declared.draft.Open.TheVariants as form
 use Rattle.px_pyxil_reader.specs.declared.draft.Bare.{Bare}
 use Rattle.px_pyxil_reader.specs.declared.draft.Inside.{Inside}
 use Rattle.px_pyxil_reader.specs.declared.draft.Begun.{Begun}
@@ -51,17 +51,17 @@ some_open (y ∷ xs) x = refl
 
 -- a draft inside a method
 abbrev at_inside : Draft → Head → List Open → List Tree → Option Bare → Draft
-at_inside d h o trees bare = with_inside d h (record { open = o; trees = trees; bare = bare })
+at_inside d h o trees bare = with_inside d h (record { forms = o; trees = trees; bare = bare })
 
 else_step : (d : Draft) (h : Head) (o : List Open) (before : List Tree) (at : At) (test : Operand) (trees : List Tree) (bare : Option Bare) →
-    step (at_inside d h (o ++ open.Yes before at test ∷ []) trees bare) line.Else ≡ Some (at_inside d h (o ++ open.No before at test (settled trees bare) ∷ []) [] None)
+    step (at_inside d h (o ++ form.Yes before at test ∷ []) trees bare) line.Else ≡ Some (at_inside d h (o ++ form.No before at test (settled trees bare) ∷ []) [] None)
 unfolding step
-else_step d h o before at test trees bare = ap (λ l. option_map (with_inside d h) (l >>= other_part (settled trees bare))) (last_again o (open.Yes before at test))
+else_step d h o before at test trees bare = ap (λ l. option_map (with_inside d h) (l >>= other_part (settled trees bare))) (last_again o (form.Yes before at test))
 
 test_step : (d : Draft) (h : Head) (o : List Open) (before : List Tree) (at : At) (test : Operand) (trees : List Tree) (bare : Option Bare) →
-    step (at_inside d h (o ++ open.First before ∷ []) trees bare) (line.Test at test) ≡ Some (at_inside d h (o ++ open.Body before (settled trees bare) at test ∷ []) [] None)
+    step (at_inside d h (o ++ form.First before ∷ []) trees bare) (line.Test at test) ≡ Some (at_inside d h (o ++ form.Body before (settled trees bare) at test ∷ []) [] None)
 unfolding step
-test_step d h o before at test trees bare = ap (λ l. option_map (with_inside d h) (l >>= body_behind (line.Test at test) (settled trees bare))) (last_again o (open.First before))
+test_step d h o before at test trees bare = ap (λ l. option_map (with_inside d h) (l >>= body_behind (line.Test at test) (settled trees bare))) (last_again o (form.First before))
 
 end_step : (d : Draft) (h : Head) (o : List Open) (x : Open) (trees : List Tree) (bare : Option Bare) →
     step (at_inside d h (o ++ x ∷ []) trees bare) line.End ≡ option_map (with_inside d h) (ended_form (settled trees bare) (o, x))
@@ -99,12 +99,12 @@ two : (a b c : Line) (xs ys rest : List Line) → (a ∷ (xs ++ b ∷ (ys ++ c �
 two a b c xs ys rest = ap (λ ls. a ∷ ls) (append_assoc xs (b ∷ (ys ++ c ∷ [])) rest ∙ ap (λ ls. xs ++ b ∷ ls) (append_assoc ys (c ∷ []) rest))
 
 if_opens : (d : Draft) (h : Head) (o : List Open) (trees : List Tree) (bare : Option Bare) (at : At) (a : Operand) (ls : List Line) →
-    run (at_inside d h o trees bare) (line.If at a ∷ ls) ≡ run (at_inside d h (o ++ open.Yes (settled trees bare) at a ∷ []) [] None) ls
+    run (at_inside d h o trees bare) (line.If at a ∷ ls) ≡ run (at_inside d h (o ++ form.Yes (settled trees bare) at a ∷ []) [] None) ls
 unfolding step
 if_opens d h o trees bare at a ls = refl
 
 loop_opens : (d : Draft) (h : Head) (o : List Open) (trees : List Tree) (bare : Option Bare) (ls : List Line) →
-    run (at_inside d h o trees bare) (line.Loop ∷ ls) ≡ run (at_inside d h (o ++ open.First (settled trees bare) ∷ []) [] None) ls
+    run (at_inside d h o trees bare) (line.Loop ∷ ls) ≡ run (at_inside d h (o ++ form.First (settled trees bare) ∷ []) [] None) ls
 unfolding step
 loop_opens d h o trees bare ls = refl
 
@@ -112,11 +112,11 @@ passes_if : (at : At) (a : Operand) (ys ns : List Tree) → Passes (lines_in_all
     Passes (line.If at a ∷ (lines_in_all ys ++ line.Else ∷ (lines_in_all ns ++ line.End ∷ []))) (If at a ys ns ∷ [])
 passes_if at a ys ns py pn d h o trees bare rest =
     let here : List Tree = settled trees bare in
-    let o1 : List Open = o ++ open.Yes here at a ∷ [] in
+    let o1 : List Open = o ++ form.Yes here at a ∷ [] in
     let behind : List Line = lines_in_all ns ++ line.End ∷ rest in
     let p = py d h o1 [] None (line.Else ∷ behind) in
     let first : List Tree = settled p.0 p.1 in
-    let o2 : List Open = o ++ open.No here at a first ∷ [] in
+    let o2 : List Open = o ++ form.No here at a first ∷ [] in
     let q = pn d h o2 [] None (line.End ∷ rest) in
     let other : List Tree = settled q.0 q.1 in
     let made : List Tree = here ++ If at a first other ∷ [] in
@@ -126,18 +126,18 @@ passes_if at a ys ns py pn d h o trees bare rest =
         ∙ p.2
         ∙ run_step (at_inside d h o1 p.0 p.1) (at_inside d h o2 [] None) line.Else behind (else_step d h o here at a p.0 p.1)
         ∙ q.2
-        ∙ run_step (at_inside d h o2 q.0 q.1) (at_inside d h o made None) line.End rest (end_step d h o (open.No here at a first) q.0 q.1),
+        ∙ run_step (at_inside d h o2 q.0 q.1) (at_inside d h o made None) line.End rest (end_step d h o (form.No here at a first) q.0 q.1),
         ap (λ xs. here ++ If at a xs other ∷ []) p.3 ∙ ap (λ xs. here ++ If at a ys xs ∷ []) q.3)
 
 passes_loop : (before : List Tree) (at : At) (a : Operand) (body : List Tree) → Passes (lines_in_all before) before → Passes (lines_in_all body) body →
     Passes (line.Loop ∷ (lines_in_all before ++ line.Test at a ∷ (lines_in_all body ++ line.End ∷ []))) (Loop before at a body ∷ [])
 passes_loop before at a body pf pb d h o trees bare rest =
     let here : List Tree = settled trees bare in
-    let o1 : List Open = o ++ open.First here ∷ [] in
+    let o1 : List Open = o ++ form.First here ∷ [] in
     let behind : List Line = lines_in_all body ++ line.End ∷ rest in
     let p = pf d h o1 [] None (line.Test at a ∷ behind) in
     let first : List Tree = settled p.0 p.1 in
-    let o2 : List Open = o ++ open.Body here first at a ∷ [] in
+    let o2 : List Open = o ++ form.Body here first at a ∷ [] in
     let q = pb d h o2 [] None (line.End ∷ rest) in
     let other : List Tree = settled q.0 q.1 in
     let made : List Tree = here ++ Loop first at a other ∷ [] in
@@ -147,7 +147,7 @@ passes_loop before at a body pf pb d h o trees bare rest =
         ∙ p.2
         ∙ run_step (at_inside d h o1 p.0 p.1) (at_inside d h o2 [] None) (line.Test at a) behind (test_step d h o here at a p.0 p.1)
         ∙ q.2
-        ∙ run_step (at_inside d h o2 q.0 q.1) (at_inside d h o made None) line.End rest (end_step d h o (open.Body here first at a) q.0 q.1),
+        ∙ run_step (at_inside d h o2 q.0 q.1) (at_inside d h o made None) line.End rest (end_step d h o (form.Body here first at a) q.0 q.1),
         ap (λ xs. here ++ Loop xs at a other ∷ []) p.3 ∙ ap (λ xs. here ++ Loop before at a xs ∷ []) q.3)
 
 abbrev PassesTo : Tree → List Line → Type 0

@@ -19,7 +19,7 @@ use Rattle.px_pyxil.specs.declared.line.Line.TheVariants as line
 use Rattle.px_pyxil.specs.Lines.{send_lines, lines_in, lines_in_all, method_lines, lines_of}
 use Rattle.px_pyxil.proofs.Trees.{lines_do, lines_if, lines_loop}
 use Rattle.px_pyxil_reader.specs.declared.draft.Open.{Open}
-use Rattle.px_pyxil_reader.specs.declared.draft.Open.TheVariants as open
+use Rattle.px_pyxil_reader.specs.declared.draft.Open.TheVariants as form
 use Rattle.px_pyxil_reader.specs.declared.draft.Bare.{Bare}
 use Rattle.px_pyxil_reader.specs.declared.draft.Inside.{Inside}
 use Rattle.px_pyxil_reader.specs.declared.draft.Begun.{Begun}
@@ -32,13 +32,13 @@ use Rattle.px_pyxil_reader.proofs.NumbersRead.{mapped_some}
 -- ---- the lines of what was read
 
 abbrev pub open_lines : Open → List Line
-open_lines (open.Yes before at test) = lines_in_all before ++ line.If at test ∷ []
-open_lines (open.No before at test yes') = lines_in_all before ++ line.If at test ∷ (lines_in_all yes' ++ line.Else ∷ [])
-open_lines (open.First before) = lines_in_all before ++ line.Loop ∷ []
-open_lines (open.Body before first at test) = lines_in_all before ++ line.Loop ∷ (lines_in_all first ++ line.Test at test ∷ [])
+open_lines (form.Yes before at test) = lines_in_all before ++ line.If at test ∷ []
+open_lines (form.No before at test yes') = lines_in_all before ++ line.If at test ∷ (lines_in_all yes' ++ line.Else ∷ [])
+open_lines (form.First before) = lines_in_all before ++ line.Loop ∷ []
+open_lines (form.Body before first at test) = lines_in_all before ++ line.Loop ∷ (lines_in_all first ++ line.Test at test ∷ [])
 
 abbrev pub inside_lines : Inside → List Line
-inside_lines i = flat_map open_lines i.open ++ lines_in_all (settled i.trees i.bare)
+inside_lines i = flat_map open_lines i.forms ++ lines_in_all (settled i.trees i.bare)
 
 abbrev pub begun_lines : Option Begun → List Line
 begun_lines None = []
@@ -59,23 +59,17 @@ one_more xs t = all_lines-append xs (t ∷ []) ∙ ap (λ ls. lines_in_all xs ++
 open_more : (o : List Open) (x : Open) → flat_map open_lines (o ++ x ∷ []) ≡ flat_map open_lines o ++ open_lines x
 open_more o x = flat_map-append open_lines o (x ∷ []) ∙ ap (λ ls. flat_map open_lines o ++ ls) (append-nil (open_lines x))
 
+nothing_before : (o : List Open) → last_of o ≡ None → (y : Open) (below : List Open) (x : Open) → [] ≡ below → y ≡ x → y ∷ o ≡ below ++ x ∷ []
+nothing_before [] h y below x b z = ap (λ w. w ∷ []) z ∙ ap (λ bs. bs ++ x ∷ []) b
+nothing_before (w ∷ o) h y below x b z = absurd cc
+
+last_by : (y : Open) (o below : List Open) (x : Open) (r : Option (List Open × Open)) → last_of o ≡ r → ((bs : List Open) (z : Open) → last_of o ≡ Some (bs, z) → o ≡ bs ++ z ∷ []) → with_first y r ≡ (below, x) → y ∷ o ≡ below ++ x ∷ []
+last_by y o below x None h more p = nothing_before o h y below x (ap (λ q. q.0) p) (ap (λ q. q.1) p)
+last_by y o below x (Some rest) h more p = ap (λ os. y ∷ os) (more rest.0 rest.1 h) ∙ ap (λ bs. bs ++ rest.1 ∷ []) (ap (λ q. q.0) p) ∙ ap (λ z. below ++ z ∷ []) (ap (λ q. q.1) p)
+
 pub last_is : (o below : List Open) (x : Open) → last_of o ≡ Some (below, x) → o ≡ below ++ x ∷ []
 last_is [] below x e = absurd cc
-last_is (y ∷ o) below x e = by (last_of o) refl
-  where
-    by : (r : Option (List Open × Open)) → last_of o ≡ r → y ∷ o ≡ below ++ x ∷ []
-    by None h =
-        let k : with_first y (last_of o) ≡ (below, x) = some_is (with_first y (last_of o)) (below, x) e in
-        let p : with_first y None ≡ (below, x) = ap (with_first y) (sym h) ∙ k in
-        nothing_before o (h) y below x (ap (λ q. q.0) p) (ap (λ q. q.1) p)
-    by (Some more) h =
-        let k : with_first y (last_of o) ≡ (below, x) = some_is (with_first y (last_of o)) (below, x) e in
-        let p : with_first y (Some more) ≡ (below, x) = ap (with_first y) (sym h) ∙ k in
-        ap (λ os. y ∷ os) (last_is o more.0 more.1 h) ∙ ap (λ bs. bs ++ more.1 ∷ []) (ap (λ q. q.0) p) ∙ ap (λ z. below ++ z ∷ []) (ap (λ q. q.1) p)
-
-    nothing_before : (o : List Open) → last_of o ≡ None → (y : Open) (below : List Open) (x : Open) → [] ≡ below → y ≡ x → y ∷ o ≡ below ++ x ∷ []
-    nothing_before [] h y below x b z = ap (λ w. w ∷ []) z ∙ ap (λ bs. bs ++ x ∷ []) b
-    nothing_before (w ∷ o) h y below x b z = absurd cc
+last_is (y ∷ o) below x e = last_by y o below x (last_of o) refl (λ bs z h. last_is o bs z h) (some_is (with_first y (last_of o)) (below, x) e)
 
 -- ---- a line more in a method
 
@@ -113,53 +107,53 @@ closed below x before trees t e =
 cut_two : (b xs rest : List Line) (a c : Line) → b ++ a ∷ (xs ++ c ∷ rest) ≡ (b ++ a ∷ (xs ++ c ∷ [])) ++ rest
 cut_two b xs rest a c = sym (append_assoc b (a ∷ (xs ++ c ∷ [])) rest ∙ ap (λ ls. b ++ a ∷ ls) (append_assoc xs (c ∷ []) rest))
 
-else_grows : (i : Inside) (j : Inside) (below : List Open) (x : Open) → i.open ≡ below ++ x ∷ [] → other_part (settled i.trees i.bare) (below, x) ≡ Some j → Grows i line.Else j
-else_grows i j below (open.Yes before at test) o e =
+else_grows : (i : Inside) (j : Inside) (below : List Open) (x : Open) → i.forms ≡ below ++ x ∷ [] → other_part (settled i.trees i.bare) (below, x) ≡ Some j → Grows i line.Else j
+else_grows i j below (form.Yes before at test) o e =
     let ts : List Tree = settled i.trees i.bare in
-    let y : Open = open.No before at test ts in
+    let y : Open = form.No before at test ts in
     let made : Inside = inside_of (below ++ y ∷ []) [] in
     ap inside_lines (sym (some_is made j e))
-    ∙ turned below (open.Yes before at test) y ts line.Else (sym (append_assoc (lines_in_all before) (line.If at test ∷ []) (lines_in_all ts ++ line.Else ∷ [])))
+    ∙ turned below (form.Yes before at test) y ts line.Else (sym (append_assoc (lines_in_all before) (line.If at test ∷ []) (lines_in_all ts ++ line.Else ∷ [])))
     ∙ ap (λ os. (flat_map open_lines os ++ lines_in_all ts) ++ line.Else ∷ []) (sym o)
-else_grows i j below (open.No before at test yes') o e = absurd cc
-else_grows i j below (open.First before) o e = absurd cc
-else_grows i j below (open.Body before first at test) o e = absurd cc
+else_grows i j below (form.No before at test yes') o e = absurd cc
+else_grows i j below (form.First before) o e = absurd cc
+else_grows i j below (form.Body before first at test) o e = absurd cc
 
-test_grows : (i : Inside) (j : Inside) (below : List Open) (x : Open) (at : At) (test : Operand) → i.open ≡ below ++ x ∷ [] → body_behind (line.Test at test) (settled i.trees i.bare) (below, x) ≡ Some j → Grows i (line.Test at test) j
-test_grows i j below (open.First before) at test o e =
+test_grows : (i : Inside) (j : Inside) (below : List Open) (x : Open) (at : At) (test : Operand) → i.forms ≡ below ++ x ∷ [] → body_behind (line.Test at test) (settled i.trees i.bare) (below, x) ≡ Some j → Grows i (line.Test at test) j
+test_grows i j below (form.First before) at test o e =
     let ts : List Tree = settled i.trees i.bare in
-    let y : Open = open.Body before ts at test in
+    let y : Open = form.Body before ts at test in
     let made : Inside = inside_of (below ++ y ∷ []) [] in
     ap inside_lines (sym (some_is made j e))
-    ∙ turned below (open.First before) y ts (line.Test at test) (sym (append_assoc (lines_in_all before) (line.Loop ∷ []) (lines_in_all ts ++ line.Test at test ∷ [])))
+    ∙ turned below (form.First before) y ts (line.Test at test) (sym (append_assoc (lines_in_all before) (line.Loop ∷ []) (lines_in_all ts ++ line.Test at test ∷ [])))
     ∙ ap (λ os. (flat_map open_lines os ++ lines_in_all ts) ++ line.Test at test ∷ []) (sym o)
-test_grows i j below (open.No before a b yes') at test o e = absurd cc
-test_grows i j below (open.Yes before a b) at test o e = absurd cc
-test_grows i j below (open.Body before first a b) at test o e = absurd cc
+test_grows i j below (form.No before a b yes') at test o e = absurd cc
+test_grows i j below (form.Yes before a b) at test o e = absurd cc
+test_grows i j below (form.Body before first a b) at test o e = absurd cc
 
-end_grows : (i : Inside) (j : Inside) (below : List Open) (x : Open) → i.open ≡ below ++ x ∷ [] → ended_form (settled i.trees i.bare) (below, x) ≡ Some j → Grows i line.End j
-end_grows i j below (open.No before at test yes') o e =
+end_grows : (i : Inside) (j : Inside) (below : List Open) (x : Open) → i.forms ≡ below ++ x ∷ [] → ended_form (settled i.trees i.bare) (below, x) ≡ Some j → Grows i line.End j
+end_grows i j below (form.No before at test yes') o e =
     let ts : List Tree = settled i.trees i.bare in
     let t : Tree = If at test yes' ts in
     let made : Inside = inside_of below (before ++ t ∷ []) in
     ap inside_lines (sym (some_is made j e))
-    ∙ closed below (open.No before at test yes') before ts t (ap (λ ls. lines_in_all before ++ ls) (lines_if at test yes' ts) ∙ cut_two (lines_in_all before) (lines_in_all yes') (lines_in_all ts ++ line.End ∷ []) (line.If at test) line.Else)
+    ∙ closed below (form.No before at test yes') before ts t (ap (λ ls. lines_in_all before ++ ls) (lines_if at test yes' ts) ∙ cut_two (lines_in_all before) (lines_in_all yes') (lines_in_all ts ++ line.End ∷ []) (line.If at test) line.Else)
     ∙ ap (λ os. (flat_map open_lines os ++ lines_in_all ts) ++ line.End ∷ []) (sym o)
-end_grows i j below (open.Body before first at test) o e =
+end_grows i j below (form.Body before first at test) o e =
     let ts : List Tree = settled i.trees i.bare in
     let t : Tree = Loop first at test ts in
     let made : Inside = inside_of below (before ++ t ∷ []) in
     ap inside_lines (sym (some_is made j e))
-    ∙ closed below (open.Body before first at test) before ts t (ap (λ ls. lines_in_all before ++ ls) (lines_loop first at test ts) ∙ cut_two (lines_in_all before) (lines_in_all first) (lines_in_all ts ++ line.End ∷ []) line.Loop (line.Test at test))
+    ∙ closed below (form.Body before first at test) before ts t (ap (λ ls. lines_in_all before ++ ls) (lines_loop first at test ts) ∙ cut_two (lines_in_all before) (lines_in_all first) (lines_in_all ts ++ line.End ∷ []) line.Loop (line.Test at test))
     ∙ ap (λ os. (flat_map open_lines os ++ lines_in_all ts) ++ line.End ∷ []) (sym o)
-end_grows i j below (open.First before) o e = absurd cc
-end_grows i j below (open.Yes before at test) o e = absurd cc
+end_grows i j below (form.First before) o e = absurd cc
+end_grows i j below (form.Yes before at test) o e = absurd cc
 
-send_grows : (i : Inside) (j : Inside) (b : Option Bare) (send : Send) → i.bare ≡ b → with_send i.open i.trees send b ≡ Some j → Grows i (line.Send send) j
+send_grows : (i : Inside) (j : Inside) (b : Option Bare) (send : Send) → i.bare ≡ b → with_send i.forms i.trees send b ≡ Some j → Grows i (line.Send send) j
 send_grows i j None send h e = absurd cc
 send_grows i j (Some b) send h e =
-    let o : List Line = flat_map open_lines i.open in
-    let made : Inside = inside_of i.open (i.trees ++ Do b.at b.word (Some send) ∷ []) in
+    let o : List Line = flat_map open_lines i.forms in
+    let made : Inside = inside_of i.forms (i.trees ++ Do b.at b.word (Some send) ∷ []) in
     let s : List Line = lines_in_all i.trees in
     ap inside_lines (sym (some_is made j e))
     ∙ ap (λ ls. o ++ ls) (one_more i.trees (Do b.at b.word (Some send)) ∙ ap (λ ls. s ++ ls) (lines_do b.at b.word (Some send)) ∙ sym (append_assoc s (line.Do b.at b.word ∷ []) (line.Send send ∷ [])))
@@ -170,28 +164,28 @@ send_grows i j (Some b) send h e =
 pub inside_grows : (i j : Inside) (l : Line) → inside_step i l ≡ Some j → Grows i l j
 inside_grows i j (line.Do at word) e =
     let ts : List Tree = settled i.trees i.bare in
-    let made : Inside = record { open = i.open; trees = ts; bare = Some (record { at = at; word = word }) } in
+    let made : Inside = record { forms = i.forms; trees = ts; bare = Some (record { at = at; word = word }) } in
     ap inside_lines (sym (some_is made j e))
-    ∙ ap (λ ls. flat_map open_lines i.open ++ ls) (one_more ts (Do at word None) ∙ ap (λ ls. lines_in_all ts ++ ls) (lines_do at word None))
-    ∙ do_more (flat_map open_lines i.open) (lines_in_all ts) (line.Do at word)
+    ∙ ap (λ ls. flat_map open_lines i.forms ++ ls) (one_more ts (Do at word None) ∙ ap (λ ls. lines_in_all ts ++ ls) (lines_do at word None))
+    ∙ do_more (flat_map open_lines i.forms) (lines_in_all ts) (line.Do at word)
 inside_grows i j (line.Send send) e = send_grows i j i.bare send refl e
 inside_grows i j (line.If at test) e =
     let ts : List Tree = settled i.trees i.bare in
-    let made : Inside = inside_of (i.open ++ open.Yes ts at test ∷ []) [] in
-    ap inside_lines (sym (some_is made j e)) ∙ opened_more i.open (open.Yes ts at test) (lines_in_all ts) (line.If at test) refl
+    let made : Inside = inside_of (i.forms ++ form.Yes ts at test ∷ []) [] in
+    ap inside_lines (sym (some_is made j e)) ∙ opened_more i.forms (form.Yes ts at test) (lines_in_all ts) (line.If at test) refl
 inside_grows i j line.Else e =
-    let m = bind_some (last_of i.open) (other_part (settled i.trees i.bare)) j e in
-    else_grows i j m.0.0 m.0.1 (last_is i.open m.0.0 m.0.1 m.1) m.2
+    let m = bind_some (last_of i.forms) (other_part (settled i.trees i.bare)) j e in
+    else_grows i j m.0.0 m.0.1 (last_is i.forms m.0.0 m.0.1 m.1) m.2
 inside_grows i j line.Loop e =
     let ts : List Tree = settled i.trees i.bare in
-    let made : Inside = inside_of (i.open ++ open.First ts ∷ []) [] in
-    ap inside_lines (sym (some_is made j e)) ∙ opened_more i.open (open.First ts) (lines_in_all ts) line.Loop refl
+    let made : Inside = inside_of (i.forms ++ form.First ts ∷ []) [] in
+    ap inside_lines (sym (some_is made j e)) ∙ opened_more i.forms (form.First ts) (lines_in_all ts) line.Loop refl
 inside_grows i j (line.Test at test) e =
-    let m = bind_some (last_of i.open) (body_behind (line.Test at test) (settled i.trees i.bare)) j e in
-    test_grows i j m.0.0 m.0.1 at test (last_is i.open m.0.0 m.0.1 m.1) m.2
+    let m = bind_some (last_of i.forms) (body_behind (line.Test at test) (settled i.trees i.bare)) j e in
+    test_grows i j m.0.0 m.0.1 at test (last_is i.forms m.0.0 m.0.1 m.1) m.2
 inside_grows i j line.End e =
-    let m = bind_some (last_of i.open) (ended_form (settled i.trees i.bare)) j e in
-    end_grows i j m.0.0 m.0.1 (last_is i.open m.0.0 m.0.1 m.1) m.2
+    let m = bind_some (last_of i.forms) (ended_form (settled i.trees i.bare)) j e in
+    end_grows i j m.0.0 m.0.1 (last_is i.forms m.0.0 m.0.1 m.1) m.2
 inside_grows i j (line.Field f) e = absurd cc
 inside_grows i j (line.Site s) e = absurd cc
 inside_grows i j (line.Method h) e = absurd cc
@@ -245,7 +239,7 @@ outside_grows fs ss ms (line.Test at test) e h = absurd cc
 outside_grows fs ss ms line.End e h = absurd cc
 
 -- the end of a method
-method_ends : (fs : List Field) (ss : List Site) (ms : List Method) (b : Begun) (o : List Open) → b.inside.open ≡ o → is_none_of o ≡ true →
+method_ends : (fs : List Field) (ss : List Site) (ms : List Method) (b : Begun) (o : List Open) → b.inside.forms ≡ o → is_none_of o ≡ true →
     draft_lines (draft_of fs ss (ms ++ ended_method b ∷ []) None) ≡ draft_lines (draft_of fs ss ms (Some b)) ++ line.End ∷ []
 method_ends fs ss ms b [] o n =
     let f : List Line = map line.Field fs in
@@ -257,7 +251,7 @@ method_ends fs ss ms b [] o n =
     ∙ ap (λ os. whole f s m (line.Method b.head ∷ (flat_map open_lines os ++ t)) ++ line.End ∷ []) (sym o)
 method_ends fs ss ms b (x ∷ o) h n = absurd cc
 
-is_end_by : (i : Inside) (l : Line) → is_last_end i l ≡ true → (l ≡ line.End) × (is_none_of i.open ≡ true)
+is_end_by : (i : Inside) (l : Line) → is_last_end i l ≡ true → (l ≡ line.End) × (is_none_of i.forms ≡ true)
 is_end_by i (line.Field f) h = absurd cc
 is_end_by i (line.Site s) h = absurd cc
 is_end_by i (line.Method m) h = absurd cc
@@ -275,7 +269,7 @@ begun_grows fs ss ms b l e h =
     let ended : Draft = draft_of fs ss (ms ++ ended_method b ∷ []) None in
     elim (chosen (is_last_end b.inside l) (Some ended) (option_map (with_inside d b.head) (inside_step b.inside l)) (Some e) h) [
       | inl h ↦ let p = is_end_by b.inside l h.0 in
-          ap draft_lines (sym (some_is ended e h.1)) ∙ method_ends fs ss ms b b.inside.open refl p.1 ∙ ap (λ k. draft_lines d ++ k ∷ []) (sym p.0)
+          ap draft_lines (sym (some_is ended e h.1)) ∙ method_ends fs ss ms b b.inside.forms refl p.1 ∙ ap (λ k. draft_lines d ++ k ∷ []) (sym p.0)
       | inr h ↦ let m = mapped_some (with_inside d b.head) (inside_step b.inside l) e h.1 in
           ap draft_lines (sym m.2)
           ∙ ap (λ ls. whole (map line.Field fs) (map line.Site ss) (flat_map method_lines ms) (line.Method b.head ∷ ls)) (inside_grows b.inside m.0 l m.1)

@@ -63,13 +63,13 @@ goes_on ls d f e =
     (c.0, texts c.1, subst AllFit (sym same) (both_fit ls c.1 f c.3), ap texts same ∙ flat_map-append line_text ls c.1)
 
 -- a run over lines and more
+more_by : (ls ms : List Line) (r : Option Draft) → ((n : Draft) → run n (ls ++ ms) ≡ (run n ls >>= λ e. run e ms)) → (r >>= λ n. run n (ls ++ ms)) ≡ ((r >>= λ n. run n ls) >>= λ e. run e ms)
+more_by ls ms None h = refl
+more_by ls ms (Some n) h = h n
+
 run_more : (d : Draft) (ls ms : List Line) → run d (ls ++ ms) ≡ (run d ls >>= λ e. run e ms)
 run_more d [] ms = refl
-run_more d (l ∷ ls) ms = by (step d l)
-  where
-    by : (r : Option Draft) → (r >>= λ n. run n (ls ++ ms)) ≡ ((r >>= λ n. run n ls) >>= λ e. run e ms)
-    by None = refl
-    by (Some n) = run_more n ls ms
+run_more d (l ∷ ls) ms = more_by ls ms (step d l) (λ n. run_more n ls ms)
 
 -- a line that the machine refuses
 pub refused : (ls : List Line) (d : Draft) (l : Line) (a : List ℕ) → AllFit ls → run start ls ≡ Some d → LineFits l → line_words l ≡ a → step d l ≡ None → GoesOn (texts ls ++ (a ++ 10 ∷ [])) → ⊥

@@ -12,7 +12,7 @@ use Rattle.px_pyxil.specs.declared.tree.Pyxil.{Pyxil}
 use Rattle.px_pyxil.specs.declared.line.Line.{Line}
 use Rattle.px_pyxil.specs.declared.line.Line.TheVariants as line
 use Rattle.px_pyxil_reader.specs.declared.draft.Open.{Open}
-use Rattle.px_pyxil_reader.specs.declared.draft.Open.TheVariants as open
+use Rattle.px_pyxil_reader.specs.declared.draft.Open.TheVariants as form
 use Rattle.px_pyxil_reader.specs.declared.draft.Bare.{Bare}
 use Rattle.px_pyxil_reader.specs.declared.draft.Inside.{Inside}
 use Rattle.px_pyxil_reader.specs.declared.draft.Begun.{Begun}
@@ -25,7 +25,7 @@ settled trees None = trees
 settled trees (Some bare) = trees ++ Do bare.at bare.word None ∷ []
 
 abbrev pub inside_of : List Open → List Tree → Inside
-inside_of open trees = record { open = open; trees = trees; bare = None }
+inside_of forms trees = record { forms = forms; trees = trees; bare = None }
 
 -- the last, and those before it
 abbrev pub with_first : Open → Option (List Open × Open) → List Open × Open
@@ -38,33 +38,33 @@ last_of (first ∷ more) = Some (with_first first (last_of more))
 
 -- the other part begins
 abbrev pub other_part : List Tree → List Open × Open → Option Inside
-other_part trees (below, open.Yes before at test) = Some (inside_of (below ++ open.No before at test trees ∷ []) [])
+other_part trees (below, form.Yes before at test) = Some (inside_of (below ++ form.No before at test trees ∷ []) [])
 other_part trees (below, _) = None
 
 -- the body begins
 abbrev pub body_behind : Line → List Tree → List Open × Open → Option Inside
-body_behind (line.Test at test) trees (below, open.First before) = Some (inside_of (below ++ open.Body before trees at test ∷ []) [])
+body_behind (line.Test at test) trees (below, form.First before) = Some (inside_of (below ++ form.Body before trees at test ∷ []) [])
 body_behind _ trees _ = None
 
 -- a form ends
 abbrev pub ended_form : List Tree → List Open × Open → Option Inside
-ended_form trees (below, open.No before at test yes') = Some (inside_of below (before ++ If at test yes' trees ∷ []))
-ended_form trees (below, open.Body before first at test) = Some (inside_of below (before ++ Loop first at test trees ∷ []))
+ended_form trees (below, form.No before at test yes') = Some (inside_of below (before ++ If at test yes' trees ∷ []))
+ended_form trees (below, form.Body before first at test) = Some (inside_of below (before ++ Loop first at test trees ∷ []))
 ended_form trees (below, _) = None
 
 abbrev pub with_send : List Open → List Tree → Send → Option Bare → Option Inside
-with_send open trees send None = None
-with_send open trees send (Some bare) = Some (inside_of open (trees ++ Do bare.at bare.word (Some send) ∷ []))
+with_send forms trees send None = None
+with_send forms trees send (Some bare) = Some (inside_of forms (trees ++ Do bare.at bare.word (Some send) ∷ []))
 
 -- one more line of a method, which doesn't end the method
 abbrev pub inside_step : Inside → Line → Option Inside
-inside_step inside (line.Do at word) = Some (record { open = inside.open; trees = settled inside.trees inside.bare; bare = Some (record { at = at; word = word }) })
-inside_step inside (line.Send send) = with_send inside.open inside.trees send inside.bare
-inside_step inside (line.If at test) = Some (inside_of (inside.open ++ open.Yes (settled inside.trees inside.bare) at test ∷ []) [])
-inside_step inside line.Else = last_of inside.open >>= other_part (settled inside.trees inside.bare)
-inside_step inside line.Loop = Some (inside_of (inside.open ++ open.First (settled inside.trees inside.bare) ∷ []) [])
-inside_step inside (line.Test at test) = last_of inside.open >>= body_behind (line.Test at test) (settled inside.trees inside.bare)
-inside_step inside line.End = last_of inside.open >>= ended_form (settled inside.trees inside.bare)
+inside_step inside (line.Do at word) = Some (record { forms = inside.forms; trees = settled inside.trees inside.bare; bare = Some (record { at = at; word = word }) })
+inside_step inside (line.Send send) = with_send inside.forms inside.trees send inside.bare
+inside_step inside (line.If at test) = Some (inside_of (inside.forms ++ form.Yes (settled inside.trees inside.bare) at test ∷ []) [])
+inside_step inside line.Else = last_of inside.forms >>= other_part (settled inside.trees inside.bare)
+inside_step inside line.Loop = Some (inside_of (inside.forms ++ form.First (settled inside.trees inside.bare) ∷ []) [])
+inside_step inside (line.Test at test) = last_of inside.forms >>= body_behind (line.Test at test) (settled inside.trees inside.bare)
+inside_step inside line.End = last_of inside.forms >>= ended_form (settled inside.trees inside.bare)
 inside_step inside (line.Field field) = None
 inside_step inside (line.Site site) = None
 inside_step inside (line.Method head) = None
@@ -90,7 +90,7 @@ outside_step draft (line.Method head) = Some (draft_of draft.fields draft.sites 
 outside_step draft _ = None
 
 abbrev pub is_last_end : Inside → Line → Bool
-is_last_end inside line.End = is_none_of inside.open
+is_last_end inside line.End = is_none_of inside.forms
 is_last_end inside _ = false
 
 abbrev pub with_inside : Draft → Head → Inside → Draft

@@ -40,7 +40,7 @@ pub(crate) struct Bare {
 /// The inside of a method: the open forms, outermost first, and the list in the last of them.
 #[derive(Drop)]
 pub(crate) struct Inside {
-    pub(crate) open: Items<Open>,
+    pub(crate) forms: Items<Open>,
     pub(crate) trees: Items<Tree>,
     pub(crate) bare: Option<Bare>,
 }
