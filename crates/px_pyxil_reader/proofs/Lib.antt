@@ -12,3 +12,4 @@ pub mod MachineRuns
 pub mod MachineSound
 pub mod MachineEnds
 pub mod TextLaws
+pub mod WholeTexts

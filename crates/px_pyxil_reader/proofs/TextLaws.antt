@@ -19,7 +19,7 @@ use Rattle.px_pyxil_reader.proofs.MachineRuns.{reads_lines}
 use Rattle.px_pyxil_reader.proofs.MachineSound.{draft_lines, run_grows}
 use Rattle.px_pyxil_reader.proofs.MachineEnds.{AllFit, both_fit, completes}
 
-abbrev texts : List Line → List ℕ
+abbrev pub texts : List Line → List ℕ
 texts ls = flat_map line_text ls
 
 -- the first lines of one text are one
@@ -35,7 +35,7 @@ never : (a x : List ℕ) → [] ≡ a ++ 10 ∷ x → ⊥
 never [] x e = absurd cc
 never (b ∷ a) x e = absurd cc
 
-first_text : (l : Line) (rest : List ℕ) → line_text l ++ rest ≡ line_words l ++ 10 ∷ rest
+pub first_text : (l : Line) (rest : List ℕ) → line_text l ++ rest ≡ line_words l ++ 10 ∷ rest
 first_text l rest = append_assoc (line_words l) (10 ∷ []) rest
 
 abbrev some_line : Line → Option Line
@@ -45,7 +45,7 @@ one_line : (l m : Line) → LineFits l → LineFits m → line_words l ≡ line_
 one_line l m f g e = some_is l m (sym (line_again l f) ∙ ap line_of e ∙ line_again m g)
 
 -- lines whose text begins with that of others begin with these
-fronts : (ls ms : List Line) (rest : List ℕ) → AllFit ls → AllFit ms → texts ms ≡ texts ls ++ rest → (more : List Line) × (ms ≡ ls ++ more) × (texts more ≡ rest) × AllFit more
+pub fronts : (ls ms : List Line) (rest : List ℕ) → AllFit ls → AllFit ms → texts ms ≡ texts ls ++ rest → (more : List Line) × (ms ≡ ls ++ more) × (texts more ≡ rest) × AllFit more
 fronts [] ms rest f g e = (ms, refl, e, g)
 fronts (l ∷ ls) [] rest f g e = absurd (never (line_words l) (texts ls ++ rest) (e ∙ append_assoc (line_text l) (texts ls) rest ∙ first_text l (texts ls ++ rest)))
 fronts (l ∷ ls) (m ∷ ms) rest f g e =
