@@ -16,7 +16,6 @@ pub(crate) enum Step {
     Broken,
 }
 
-#[tactic(auto, using(crate::proofs::TextLaws::goes_on, crate::proofs::TextLaws::refused, crate::proofs::TextLaws::no_line_so, crate::proofs::WholeTexts::whole, crate::proofs::WholeTexts::only))]
 fn escape_of(byte: u8) -> Step
     ensures { result ≡ escape_of byte }
 {
