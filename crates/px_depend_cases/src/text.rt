@@ -1,7 +1,7 @@
 //! Sets and edges as text.
 use px_depend::{Edge, End, Tie};
 use px_flow_points::{Pair, Part, Points, Touch};
-use px_normal::{Code, Method};
+use px_normal::{Code, Field, Method};
 use px_value::Kind;
 use sqlite_items::at;
 use std::alloc::{AllocError, Global};
@@ -35,8 +35,10 @@ fn put_method(
     method: &Method,
     text: &mut String,
 ) -> Result<(), AllocError> {
-    for slot in 0..method.slots.len() {
-        put_slot(alloc, points, number, slot as u16, text)?;
+    let mut slot: u16 = 0;
+    for _ty in method.slots.as_slice() {
+        put_slot(alloc, points, number, slot, text)?;
+        slot = slot.wrapping_add(1);
     }
     Ok(())
 }
@@ -71,11 +73,19 @@ fn put_cell(
     put_sites(alloc, sites, text)
 }
 
-fn field_count(code: &Code, class: u16) -> usize {
-    match at(code.classes.as_slice(), usize::from(class)) {
-        Some(class) => class.fields.len(),
-        None => 0,
+fn put_fields(
+    alloc: Global,
+    points: &Points,
+    site: u16,
+    fields: &[Field],
+    text: &mut String,
+) -> Result<(), AllocError> {
+    let mut place: u16 = 0;
+    for _field in fields {
+        put_cell(alloc, points, site, Part::Field(place), text)?;
+        place = place.wrapping_add(1);
     }
+    Ok(())
 }
 
 fn put_site(
@@ -86,13 +96,13 @@ fn put_site(
     kind: Kind,
     text: &mut String,
 ) -> Result<(), AllocError> {
-    if let Kind::Object(class) = kind {
-        for place in 0..field_count(code, class) {
-            put_cell(alloc, points, site, Part::Field(place as u16), text)?;
-        }
-        return Ok(());
+    let Kind::Object(class) = kind else {
+        return put_cell(alloc, points, site, Part::Elements, text);
+    };
+    match at(code.classes.as_slice(), usize::from(class)) {
+        Some(class) => put_fields(alloc, points, site, class.fields.as_slice(), text),
+        None => Ok(()),
     }
-    put_cell(alloc, points, site, Part::Elements, text)
 }
 
 /// The sites of each slot, by method and slot, and of each part, those alone that have some.
