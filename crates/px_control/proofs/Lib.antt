@@ -1,0 +1,12 @@
+pub mod InPlace
+pub mod Sets
+pub mod Given
+pub mod Backs
+pub mod Reading
+pub mod Quiet
+pub mod Leaving
+pub mod Calling
+pub mod Ordering
+pub mod Carrying
+pub mod Written
+pub mod Counting

@@ -1,0 +1,5 @@
+pub mod Slots
+pub mod Marks
+pub mod Names
+pub mod Stack
+pub mod Calls
