@@ -11,3 +11,4 @@ pub mod Carrying
 pub mod Written
 pub mod Counting
 pub mod Absorbing
+pub mod TakenLaw

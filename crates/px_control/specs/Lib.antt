@@ -5,3 +5,4 @@ pub mod Stack
 pub mod Calls
 pub mod Taken
 pub mod Refused
+pub mod There

@@ -12,6 +12,7 @@ mod fitting;
 mod frame;
 mod heap_end;
 mod homes;
+pub mod law;
 mod marks;
 mod message;
 mod names;

@@ -1,0 +1,5 @@
+use Rattle.px_control.proofs.TakenLaw.{transfers_are_taken as it}
+use Rattle.px_control.proofs.law.transfers_are_taken.Goals as goal
+
+pub returns : goal.returns
+returns c = it
